@@ -1,0 +1,4 @@
+-- What the contracts of the agendas cite.
+pub mod Waiting
+pub mod Orders
+pub mod Rings

@@ -1,0 +1,4 @@
+pub mod Making
+pub mod Checks
+pub mod Solutions
+pub mod Building

@@ -1,0 +1,9 @@
+pub mod Same
+pub mod Symbols
+pub mod Steps
+pub mod Fixed
+pub mod Shapes
+pub mod Bounds
+pub mod Lines
+pub mod Ends
+pub mod Texts

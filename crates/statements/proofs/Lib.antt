@@ -1,0 +1,6 @@
+pub mod Tests
+pub mod Searches
+pub mod Multiples
+pub mod Betweens
+pub mod Aligneds
+pub mod Statements

@@ -1,0 +1,5 @@
+pub mod Numbers
+pub mod Search
+pub mod Between
+pub mod Aligned
+pub mod Statements
