@@ -7,3 +7,5 @@ pub mod Bounds
 pub mod Lines
 pub mod Ends
 pub mod Texts
+pub mod Standing
+pub mod Built

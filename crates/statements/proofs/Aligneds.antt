@@ -1,7 +1,7 @@
--- The least and the greatest number of an Aligned. Assumes nothing.
-use mathlib.Core.Path.{_≡_, sym, subst, ap, _∙_}
-use mathlib.Core.Bool.{Bool, true, false, _&&_}
-use Prim.Native.Nat.{ℕ, _^_, _<_}
+-- The least and the greatest number of an Aligned.
+use mathlib.Core.Path.{_≡_, subst}
+use mathlib.Core.Bool.{true, false}
+use Prim.Native.Nat.{_^_, _<_}
 use native.Mathlib.Omega.{arith}
 use lib.Dec.{eqb}
 use lib.IntN.{ℤ, pos, _+ℤ_, _-ℤ_}
@@ -32,7 +32,7 @@ module _ (a : Residue) where
 
   -- A residue's numbers are those that leave its rest.
   pub aligned-rest : (n : ℤ) → aligned a n ≡ true → rest (2 ^ a .k) n ≡ a .r
-  aligned-rest n e = rest-unique (2 ^ a .k) n (a .r) (a .rest) (aligned-of n e .1)
+  aligned-rest n e = rest-unique (2 ^ a .k) n (a .r) (a .below) (aligned-of n e .1)
 
   pub rest-aligned : (n : ℤ) → InU n → rest (2 ^ a .k) n ≡ a .r → aligned a n ≡ true
   rest-aligned n u e =

@@ -1,4 +1,4 @@
--- The least and the greatest number of a Between. Assumes nothing.
+-- The least and the greatest of the numbers from lo to hi, and of a Between.
 use mathlib.Core.Path.{_≡_}
 use native.Mathlib.Omega.{arith}
 use lib.IntN.{ℤ}
@@ -6,33 +6,23 @@ use lib.Signed.{_≤ℤ_, _<ℤ_}
 use Rattle.std.specs.Numbers.{maxZ, minZ}
 use Rattle.std.proofs.shelf.Signed.{ints, clamps, by-ltZ}
 use Rattle.std.specs.declared.option.Option.the-variants.{Some, None}
-use Rattle.statements.specs.Numbers.{Within, raised, lowered}
+use Rattle.statements.specs.Numbers.{inside, Within, raised, lowered}
 use Rattle.statements.specs.Search.{LeastFrom, GreatestTo}
 use Rattle.statements.specs.Between.{between}
 use Rattle.statements.proofs.Tests.{inside-made, inside-of, inside-below, inside-above}
 
-module _ (lo hi : ℤ) where
-  pub between-within : Within (between lo hi)
-  between-within n e = let p = inside-of (raised lo) (lowered hi) n e in (omega (arith, ints, clamps), omega (arith, ints, clamps))
+module _ (lo hi n v : ℤ) where
+  pub inside-least : v ≡ maxZ n lo → v ≤ℤ hi → LeastFrom (inside lo hi) n (Some v)
+  inside-least is h = (omega (arith, ints, clamps), inside-made lo hi v (omega (arith, ints, clamps)) h, λ m k l. inside-below lo hi m (omega (arith, ints, clamps)))
 
-  pub between-least : (n v : ℤ) → v ≡ maxZ n (raised lo) → v ≤ℤ lowered hi → LeastFrom (between lo hi) n (Some v)
-  between-least n v is h = (
-    omega (arith, ints, clamps),
-    inside-made (raised lo) (lowered hi) v (omega (arith, ints, clamps)) h,
-    λ m k l. inside-below (raised lo) (lowered hi) m (omega (arith, ints, clamps)),
-  )
+  pub inside-no-least : v ≡ maxZ n lo → hi <ℤ v → LeastFrom (inside lo hi) n None
+  inside-no-least is h m k = by-ltZ m lo (λ l. inside-below lo hi m l) (λ l. inside-above lo hi m (omega (arith, ints, clamps)))
 
-  pub between-no-least : (n v : ℤ) → v ≡ maxZ n (raised lo) → lowered hi <ℤ v → LeastFrom (between lo hi) n None
-  between-no-least n v is h m k =
-      by-ltZ m (raised lo) (λ l. inside-below (raised lo) (lowered hi) m l) (λ l. inside-above (raised lo) (lowered hi) m (omega (arith, ints, clamps)))
+  pub inside-greatest : v ≡ minZ n hi → lo ≤ℤ v → GreatestTo (inside lo hi) n (Some v)
+  inside-greatest is h = (omega (arith, ints, clamps), inside-made lo hi v h (omega (arith, ints, clamps)), λ m k l. inside-above lo hi m (omega (arith, ints, clamps)))
 
-  pub between-greatest : (n v : ℤ) → v ≡ minZ n (lowered hi) → raised lo ≤ℤ v → GreatestTo (between lo hi) n (Some v)
-  between-greatest n v is h = (
-    omega (arith, ints, clamps),
-    inside-made (raised lo) (lowered hi) v h (omega (arith, ints, clamps)),
-    λ m k l. inside-above (raised lo) (lowered hi) m (omega (arith, ints, clamps)),
-  )
+  pub inside-no-greatest : v ≡ minZ n hi → v <ℤ lo → GreatestTo (inside lo hi) n None
+  inside-no-greatest is h m k = by-ltZ hi m (λ l. inside-above lo hi m l) (λ l. inside-below lo hi m (omega (arith, ints, clamps)))
 
-  pub between-no-greatest : (n v : ℤ) → v ≡ minZ n (lowered hi) → v <ℤ raised lo → GreatestTo (between lo hi) n None
-  between-no-greatest n v is h m k =
-      by-ltZ (lowered hi) m (λ l. inside-above (raised lo) (lowered hi) m l) (λ l. inside-below (raised lo) (lowered hi) m (omega (arith, ints, clamps)))
+pub between-within : (lo hi : ℤ) → Within (between lo hi)
+between-within lo hi n e = let p = inside-of (raised lo) (lowered hi) n e in (omega (arith, ints, clamps), omega (arith, ints, clamps))

@@ -1,3 +1,4 @@
+-- The lemmas of the crate.
 pub mod Tests
 pub mod Searches
 pub mod Multiples

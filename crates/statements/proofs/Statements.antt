@@ -1,4 +1,4 @@
--- Laws of every statement. Assumes nothing.
+-- Laws of every statement.
 use Rattle.statements.specs.Numbers.{Within}
 use Rattle.statements.specs.Statements.{allowed}
 use Rattle.statements.specs.declared.statement.Statement.{Statement}

@@ -1,12 +1,12 @@
--- Tests as facts: yes and no, and the order of whole numbers. Assumes nothing.
+-- Tests as facts: yes and no, and the order of whole numbers.
 use mathlib.Core.Path.{_≡_, refl, sym, subst, _∙_}
 use mathlib.Core.Bool.{Bool, true, false, _&&_}
 use native.Mathlib.Omega.{arith}
 use lib.Dec.{T}
 use lib.IntN.{ℤ}
 use lib.Signed.{leZ, _≤ℤ_, _<ℤ_}
-use Rattle.std.proofs.shelf.Signed.{ints}
-use Rattle.statements.specs.Numbers.{inside}
+use Rattle.std.proofs.shelf.Signed.{ints, clamps}
+use Rattle.statements.specs.Numbers.{top, bottom, inside, raised, lowered}
 
 -- ---- yes and no
 
@@ -74,3 +74,11 @@ inside-below lo hi n h = and-no-left (leZ lo n) (leZ n hi) (le-no lo n h)
 
 pub inside-above : (lo hi n : ℤ) → hi <ℤ n → inside lo hi n ≡ false
 inside-above lo hi n h = and-no-right (leZ lo n) (leZ n hi) (le-no n hi h)
+
+-- ---- clamping
+
+pub raised-low : (lo : ℤ) → bottom ≤ℤ raised lo
+raised-low lo = omega (arith, ints, clamps)
+
+pub lowered-high : (hi : ℤ) → lowered hi ≤ℤ top
+lowered-high hi = omega (arith, ints, clamps)

@@ -1,4 +1,4 @@
--- What Aligned allows. Assumes nothing.
+-- What Aligned allows.
 use mathlib.Core.Path.{_≡_}
 use mathlib.Core.Bool.{Bool, _&&_}
 use Prim.Native.Nat.{ℕ, _-_, _^_, _%_, _<_, _≤_}

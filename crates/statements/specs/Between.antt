@@ -1,4 +1,4 @@
--- What Between allows. Assumes nothing.
+-- What Between allows.
 use mathlib.Core.Bool.{Bool}
 use lib.IntN.{ℤ}
 use Rattle.statements.specs.Numbers.{inside, raised, lowered}

@@ -1,3 +1,4 @@
+-- The definitions that the contracts of the crate cite.
 pub mod Numbers
 pub mod Search
 pub mod Between

@@ -1,4 +1,4 @@
--- U, the whole numbers from -M to M, where M is 4,294,967,295. Assumes nothing.
+-- U, the whole numbers from -M to M, where M is 4,294,967,295.
 use mathlib.Core.Path.{_≡_}
 use mathlib.Core.Bool.{Bool, true, _&&_}
 use lib.IntN.{ℤ, pos, negsuc}

@@ -1,4 +1,4 @@
--- The least number from one upward and the greatest from one downward that a test allows; its lowest and its highest. Assumes nothing.
+-- The least number from one upward and the greatest from one downward that a test allows; its lowest and its highest.
 use mathlib.Core.Path.{_≡_}
 use mathlib.Core.Bool.{Bool, true, false, cond}
 use Prim.Native.Nat.{ℕ, zero, suc}

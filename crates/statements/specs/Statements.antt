@@ -1,4 +1,4 @@
--- What a statement allows. Assumes nothing.
+-- What a statement allows.
 use mathlib.Core.Bool.{Bool}
 use lib.IntN.{ℤ}
 use Rattle.statements.specs.Between.{between}

@@ -1,6 +1,6 @@
 // The numbers that statements and facts are about: U, the whole numbers from -M to M.
 ghost use mathlib.Core.Path.{_≡_};
-ghost use Rattle.statements.specs.Numbers.{inside, top, bottom, raised as up, lowered as down};
+ghost use Rattle.statements.specs.Numbers.{inside, top, bottom, raised, lowered};
 
 // M, the highest number of U.
 pub const TOP: i64 = 4_294_967_295;
@@ -17,14 +17,14 @@ pub fn is_number(n: i64) -> bool
 
 // A lower end, raised to at least -M.
 pub fn raised(lo: i64) -> i64
-    ensures { λ r. ⌜ r ≡ up lo ⌝ }
+    ensures { λ r. ⌜ r ≡ raised lo ⌝ }
 {
     lo.max(BOTTOM)
 }
 
 // An upper end, lowered to at most M.
 pub fn lowered(hi: i64) -> i64
-    ensures { λ r. ⌜ r ≡ down hi ⌝ }
+    ensures { λ r. ⌜ r ≡ lowered hi ⌝ }
 {
     hi.min(TOP)
 }

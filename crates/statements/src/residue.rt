@@ -7,5 +7,5 @@ pub struct Residue {
     pub k: u32,
     pub r: u32,
     ghost fine: { k ≤ 24 },
-    ghost rest: { r < 2 ^ k },
+    ghost below: { r < 2 ^ k },
 }

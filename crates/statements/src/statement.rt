@@ -1,7 +1,7 @@
 // A statement, and all that the layers above ask of one.
 ghost use mathlib.Core.Path.{_≡_};
 ghost use Rattle.statements.specs.Numbers.{InU};
-ghost use Rattle.statements.specs.Search.{LeastFrom, GreatestTo, lowest as least, highest as greatest};
+ghost use Rattle.statements.specs.Search.{LeastFrom, GreatestTo, lowest, highest};
 ghost use Rattle.statements.specs.Statements.{allowed};
 use crate::between;
 use crate::numbers::BOTTOM;
@@ -48,7 +48,7 @@ impl Statement {
 
     // The lowest number that it allows, or M where it allows none.
     pub fn lowest(self) -> i64
-        ensures is { λ r. ⌜ r ≡ least (allowed self) ⌝ }
+        ensures is { λ r. ⌜ r ≡ lowest (allowed self) ⌝ }
         ensures within { λ r. ⌜ InU r ⌝ }
     {
         match self.least_from(BOTTOM) {
@@ -59,7 +59,7 @@ impl Statement {
 
     // The highest number that it allows, or -M where it allows none.
     pub fn highest(self) -> i64
-        ensures is { λ r. ⌜ r ≡ greatest (allowed self) ⌝ }
+        ensures is { λ r. ⌜ r ≡ highest (allowed self) ⌝ }
         ensures within { λ r. ⌜ InU r ⌝ }
     {
         match self.greatest_to(TOP) {

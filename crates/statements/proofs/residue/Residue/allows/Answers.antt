@@ -1,3 +1,4 @@
+-- A number is aligned where what it has beyond r leaves nothing.
 use mathlib.Core.Path.{_≡_, sym, ap, _∙_}
 use Prim.Native.Nat.{_^_}
 use native.Mathlib.Omega.{arith}

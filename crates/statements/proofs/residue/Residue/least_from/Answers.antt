@@ -1,3 +1,4 @@
+-- The least number of an Aligned.
 use native.Mathlib.Omega.{arith}
 use lib.IntN.{_+ℤ_}
 use lib.Pow.{pow-mono}

@@ -1,3 +1,4 @@
+-- The remainder that the machine computes is the rest.
 use mathlib.Core.Path.{_≡_, ap₂, _∙_}
 use Prim.Native.Nat.{_^_}
 use native.Mathlib.Omega.{arith}

@@ -1,3 +1,4 @@
+-- The greatest number of a statement that is a Between.
 use mathlib.Core.Path.{sym, subst}
 use borrow.Author.Needs.{needs}
 use mir.Syntax.{w64}

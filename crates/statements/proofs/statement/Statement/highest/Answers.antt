@@ -1,4 +1,4 @@
-use mathlib.Core.Path.{_∙_}
+-- The greatest number from M down is the highest.
 use native.Mathlib.Omega.{arith}
 use Rattle.std.proofs.shelf.Signed.{ints}
 use Rattle.std.specs.declared.option.Option.the-variants.{Some, None}

@@ -1,0 +1,4 @@
+-- The lemmas of the crate.
+pub mod SpanLaws
+pub mod Rests
+pub mod AlignLaws

@@ -1,0 +1,4 @@
+-- The definitions that the contracts of the crate cite.
+pub mod Span
+pub mod Align
+pub mod Examples
