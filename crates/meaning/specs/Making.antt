@@ -1,23 +1,21 @@
 -- What a line makes: cells, premises and constraints, numbered in order of making.
 use mathlib.Core.List.{List, [], _∷_, _++_}
-use Prim.Native.Nat.{ℕ, _+_, _-_, _*_, _%_, _^_, min, _≤_, _<_}
+use Prim.Native.Nat.{ℕ, _+_, _-_, _%_, _^_, min, _≤_, _<_}
 use native.Mathlib.Omega.{arith}
-use lib.IntN.{ℤ, pos}
+use lib.IntN.{pos}
 use lib.ListN.{length}
 use Rattle.std.proofs.shelf.Bits.{pow-pos}
 use native.Mathlib.Nat.{mod-lt}
 use Rattle.std.specs.declared.option.Option.{Option}
 use Rattle.std.specs.declared.option.Option.the-variants.{Some, None}
-use Rattle.statements.specs.declared.residue.Residue.{Residue}
 use Rattle.statements.specs.declared.statement.Statement.{Statement}
 use Rattle.statements.specs.declared.statement.Statement.the-variants.{Between, Aligned}
-use Rattle.plan.specs.declared.constraint.Constraint.{Constraint}
 use Rattle.plan.specs.declared.constraint.Form.{Form}
 use Rattle.plan.specs.declared.constraint.Form.the-variants.{State, Sum, Gap, Apart}
 use Rattle.plan.specs.declared.place.Place.{Place}
 use Rattle.plan.specs.Items.{Items}
 use Rattle.plan.specs.Names.{Texts, cellOf, premiseOf}
-use Rattle.grammar.specs.Tree.{Name, Number, Expr, one, plus, Term, named, counted, group, Owner, Body, within, aligned, apart, atMost, Line, blank, cell, premise, constraint}
+use Rattle.grammar.specs.Tree.{Name, Expr, one, plus, Term, named, counted, group, Owner, Body, within, aligned, apart, atMost, Line, blank, cell, premise, constraint}
 
 -- the number found, or 0: a line with a name that is not found is refused, and makes nothing
 abbrev pub orZero : Option ℕ → ℕ
@@ -77,7 +75,7 @@ rest-small k r = mod-lt r (pow-pos (min k 24))
 
 -- aligned to 2 ^ k with the rest r: k is at most 24 and r below 2 ^ k in every line that is not refused
 abbrev pub alignedTo : ℕ → ℕ → Statement
-alignedTo k r = Aligned (record { k = min k 24; r = r % 2 ^ min k 24; fine = power-fine k; rest = rest-small k r })
+alignedTo k r = Aligned (record { k = min k 24; r = r % 2 ^ min k 24; fine = power-fine k; below = rest-small k r })
 
 -- the constraint that a line is, owned by p, after its helpers, which nothing owns
 abbrev pub bodyMakes : Texts → Option ℕ → Body → Items → Items

@@ -12,10 +12,10 @@ use Rattle.std.specs.declared.option.Option.the-variants.{Some, None}
 use Rattle.statements.specs.Statements.{allowed}
 use Rattle.statements.specs.declared.statement.Statement.the-variants.{Between}
 use Rattle.plan.specs.Items.{Items}
-use Rattle.plan.specs.Names.{Texts, cellOf, premiseOf}
+use Rattle.plan.specs.Names.{Texts, cellOf}
 use Rattle.statements.specs.Numbers.{InU}
 use Rattle.plan.specs.Placements.{Placement, Placed, Premises, Meets}
-use Rattle.grammar.specs.Tree.{Name, Number, Expr, one, plus, Term, named, counted, group, Owner, Body, within, aligned, apart, atMost, Line, blank, cell, premise, constraint}
+use Rattle.grammar.specs.Tree.{Expr, one, plus, Term, named, counted, group, Owner, Body, within, aligned, apart, atMost, Line, blank, cell, premise, constraint}
 use Rattle.meaning.specs.Making.{cellNamed, premiseNamed, alignedTo}
 
 -- a number for each name

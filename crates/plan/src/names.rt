@@ -100,7 +100,12 @@ pub fn find_premise(premises: &[Place], chip: &[u8], project: &[u8], name: &[u8]
 impl Plan {
     /// The name of a cell, as the part of the text that declared it: absent for a helper, or where the text handed in
     /// is too short; refused where there is no such cell.
-    pub fn name<'a>(&self, cell: usize, chip: &'a [u8], project: &'a [u8]) -> Result<Option<&'a [u8]>, Refusal>
+    pub fn name<'a>(
+        &self,
+        cell: usize,
+        chip: &'a [u8],
+        project: &'a [u8],
+    ) -> Result<Option<&'a [u8]>, Refusal>
         ensures { λ r. ⌜ answered r ≡ cellName (now (chip .entry) ∷ now (project .entry) ∷ []) (nth (vec-items (now (self .entry) .cells)) cell) ⌝ }
     {
         if cell >= self.cells.len() {
@@ -110,7 +115,12 @@ impl Plan {
     }
 
     /// The name of a premise, likewise.
-    pub fn premise_name<'a>(&self, premise: usize, chip: &'a [u8], project: &'a [u8]) -> Result<Option<&'a [u8]>, Refusal>
+    pub fn premise_name<'a>(
+        &self,
+        premise: usize,
+        chip: &'a [u8],
+        project: &'a [u8],
+    ) -> Result<Option<&'a [u8]>, Refusal>
         ensures { λ r. ⌜ answered r ≡ premiseName (now (chip .entry) ∷ now (project .entry) ∷ []) (nth (vec-items (now (self .entry) .premises)) premise) ⌝ }
     {
         if premise >= self.premises.len() {

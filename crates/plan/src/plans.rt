@@ -1,9 +1,7 @@
 // Plans: the empty one, what a plan holds, and a draft made into a plan.
 ghost use mathlib.Core.Path.{_≡_};
-ghost use mathlib.Core.Bool.{Bool};
 ghost use lib.ListN.{length};
 ghost use Rattle.std.specs.Finite.{nth};
-ghost use Rattle.std.specs.Of.Vec.{vec-items, vec-len};
 ghost use Rattle.plan.specs.Known.{allBelow, ownerKnown, ranged, known, allKnown};
 ghost use Rattle.plan.specs.Forms.{named};
 ghost use Rattle.plan.specs.Items.{nothing, planned, drafted, few, fits, filled};
@@ -85,14 +83,20 @@ impl Draft {
     pub fn is_few(&self) -> bool
         ensures { λ r. ⌜ r ≡ few (drafted (now (self .entry))) ⌝ }
     {
-        (self.cells.len() <= CELLS) & ((self.premises.len() <= PREMISES) & (self.constraints.len() <= CONSTRAINTS))
+        (self.cells.len() <= CELLS)
+            & ((self.premises.len() <= PREMISES) & (self.constraints.len() <= CONSTRAINTS))
     }
 
     /// Whether a plan may hold this.
     pub fn is_fit(&self) -> bool
         ensures { λ r. ⌜ r ≡ fits (drafted (now (self .entry))) ⌝ }
     {
-        self.is_few() & are_known(self.constraints.as_slice(), self.cells.len(), self.premises.len())
+        self.is_few()
+            & are_known(
+                self.constraints.as_slice(),
+                self.cells.len(),
+                self.premises.len(),
+            )
     }
 }
 

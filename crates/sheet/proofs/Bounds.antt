@@ -1,9 +1,9 @@
 -- Two expressions and `<=`, and a constraint as a whole, against the reading of the whole line.
-use mathlib.Core.Path.{_≡_, refl, sym, ap, subst, _∙_}
+use mathlib.Core.Path.{_≡_, refl, sym, ap, _∙_}
 use mathlib.Core.Bool.{Bool, true, false, not}
 use mathlib.Core.List.{List, [], _∷_}
 use Prim.Native.Nat.{ℕ, _+_, _<_, _≤_}
-use lib.IntN.{ℤ, pos}
+use lib.IntN.{pos}
 use lib.ListN.{length}
 use Rattle.std.specs.declared.option.Option.{Option}
 use Rattle.std.specs.declared.option.Option.the-variants.{Some, None}
@@ -12,26 +12,24 @@ use Rattle.std.specs.declared.result.Result.the-variants.{Ok, Err}
 use Rattle.words.specs.declared.Keyword.{Keyword}
 use Rattle.words.specs.declared.Keyword.the-variants.{Cell, Premise, In, To, Align, Apart}
 use Rattle.words.specs.declared.Placed.{Placed}
-use Rattle.words.specs.declared.Symbol.{Symbol}
 use Rattle.words.specs.declared.Symbol.the-variants.{Colon, Plus, Open, Close, AtMost, Equals}
 use Rattle.words.specs.Words.{Word, name, number, reserved, symbol, Spot}
-use Rattle.grammar.specs.Tree.{Name, Expr, one, named, Owner, Body, atMost, Line, constraint, at, nameSpot}
-use Rattle.grammar.specs.Parse.{Rest, rest, State, body, head, need, have, Step, off, refused, wrong, short, read, parse, went, heading, owning, starting, declaring, had, forming, afterIn, afterAlign, afterApart}
+use Rattle.grammar.specs.Tree.{Name, one, named, Owner, atMost, constraint, at, nameSpot}
+use Rattle.grammar.specs.Parse.{Rest, rest, body, head, need, have, off, refused, wrong, short, read, parse, went, heading, declaring, had, forming}
 use Rattle.plan.specs.declared.constraint.Form.the-variants.{Gap}
-use Rattle.plan.specs.Items.{Items}
 use Rattle.plan.specs.Names.{Texts}
-use Rattle.meaning.specs.Making.{adds, bodyMakes, makes}
+use Rattle.meaning.specs.Making.{adds, makes}
 use Rattle.meaning.specs.Checks.{first, exprFault}
 use Rattle.sheet.specs.declared.reading.Stop.{Stop}
 use Rattle.sheet.specs.declared.reading.Stop.the-variants as stop
 use Rattle.sheet.specs.Growing.{grows}
 use Rattle.sheet.specs.Progress.{Progress, Pushed}
 use Rattle.sheet.specs.Reads.{limit, from, Ends, marks, begins, Halts, needing, ReadsExpr}
-use Rattle.sheet.specs.Forms.{Leaves, FormTells, BoundTells, BodyTells, Plain, plain, openedBy, declares, headed, headedBy, reservedSecond, isReserved}
+use Rattle.sheet.specs.Forms.{Leaves, FormTells, BoundTells, BodyTells, Plain, plain, declares, headed, headedBy, reservedSecond, isReserved}
 use Rattle.sheet.proofs.Same.{first-assoc, same-expr, expr-fault-same}
 use Rattle.sheet.proofs.Shapes.{out-of-memory}
 use Rattle.sheet.proofs.Steps.{col, word-at, have-at, parse-end, says, stuck-left, stuck-right}
-use Rattle.sheet.proofs.Symbols.{never, clash, marks-is}
+use Rattle.sheet.proofs.Symbols.{never, clash}
 
 -- the words from i on, read as two expressions
 abbrev bounds : List Placed → Option Owner → ℕ → Rattle.grammar.specs.Parse.Outcome
@@ -68,8 +66,8 @@ module _ {ts : Texts} {ws : List Placed} {i j c : ℕ} {p m : Progress} (x : Rea
         let cell : d ≡ makes ts None (y .tree) (makes ts None (x .tree) (p .items) .then) .cell = y .cell-is ∙ ap (λ z. grows ts None (y .tree) z .cell) (x .then-is) in
         record {
           found = ap (λ z. z .found) end ∙ ap (λ z. z .found) last
-            ∙ first-assoc (p .found) (exprFault ts (p .items) (x .tree)) (exprFault ts (makes ts None (x .tree) (p .items) .then) (y .tree))
-            ∙ ap (λ f. first (p .found) (first (exprFault ts (p .items) (x .tree)) f)) (expr-fault-same ts (y .tree) (p .items) (makes ts None (x .tree) (p .items) .then) (same-expr ts None (x .tree) (p .items)));
+              ∙ first-assoc (p .found) (exprFault ts (p .items) (x .tree)) (exprFault ts (makes ts None (x .tree) (p .items) .then) (y .tree))
+              ∙ ap (λ f. first (p .found) (first (exprFault ts (p .items) (x .tree)) f)) (expr-fault-same ts (y .tree) (p .items) (makes ts None (x .tree) (p .items) .then) (same-expr ts None (x .tree) (p .items)));
           items = λ _. ap (λ z. z .items) end ∙ (λ n. adds q (Gap (x .cell-is n) (pos 0) (cell n)) (last n .items));
         }
 

@@ -1,13 +1,13 @@
 -- Where a line ends.
-use mathlib.Core.Path.{_≡_, refl, sym, ap, subst, _∙_}
-use mathlib.Core.Bool.{Bool, true, false, cond}
-use mathlib.Core.List.{List, [], _∷_, _++_, append-nil}
+use mathlib.Core.Path.{_≡_, refl, sym, ap, _∙_}
+use mathlib.Core.Bool.{true, false, cond}
+use mathlib.Core.List.{List, [], _∷_, _++_}
 use Prim.Native.Nat.{ℕ, _+_, _-_, _<_, _≤_}
 use native.Mathlib.Omega.{arith}
-use lib.Dec.{eqb, leb}
+use lib.Dec.{eqb}
 use lib.ListN.{length, take, drop, getD, length-drop}
 use Rattle.std.proofs.shelf.Lists.{take-more, drop-more, getD-drop, drop-all}
-use Rattle.std.proofs.shelf.Tests.{le-leb, lt-leb, eq-eqb}
+use Rattle.std.proofs.shelf.Tests.{le-leb, lt-leb}
 use Rattle.sheet.specs.Sheets.{onto, linesOf}
 use Rattle.sheet.specs.Answers.{linesFrom, LineEnds}
 
@@ -45,17 +45,17 @@ byte-at text o e h = let sum : o + (e - o) ≡ e = omega arith in getD-drop o te
 pub along-more : {text : List ℕ} {o e : ℕ} → Along text o e → e < length text → eqb (getD text e 0) 10 ≡ false → Along text o (e + 1)
 along-more {text} {o} {e} a h other =
     let here : linesOf (drop e text) ≡ onto (getD text e 0) (linesOf (drop (e + 1) text))
-         = ap linesOf (drop-more text e 0 h) ∙ ap (λ b. cond b ([] ∷ linesOf (drop (e + 1) text)) (onto (getD text e 0) (linesOf (drop (e + 1) text)))) other in
+    = ap linesOf (drop-more text e 0 h) ∙ ap (λ b. cond b ([] ∷ linesOf (drop (e + 1) text)) (onto (getD text e 0) (linesOf (drop (e + 1) text)))) other in
     let room : e - o < length (drop o text) = omega (arith, length-drop o text, a .after) in
     let next : e - o + 1 ≡ e + 1 - o = omega (arith, a .after) in
     let grown : take (e + 1 - o) (drop o text) ≡ take (e - o) (drop o text) ++ getD text e 0 ∷ []
-         = ap (λ k. take k (drop o text)) (sym next) ∙ take-more (drop o text) (e - o) 0 room ∙ ap (λ b. take (e - o) (drop o text) ++ b ∷ []) (byte-at text o e (a .after)) in
+    = ap (λ k. take k (drop o text)) (sym next) ∙ take-more (drop o text) (e - o) 0 room ∙ ap (λ b. take (e - o) (drop o text) ++ b ∷ []) (byte-at text o e (a .after)) in
     record {
       after = omega (arith, a .after);
       inside = omega arith;
       is = a .is ∙ ap (onto-all (take (e - o) (drop o text))) here
-        ∙ sym (onto-push (take (e - o) (drop o text)) (getD text e 0) (linesOf (drop (e + 1) text)))
-        ∙ ap (λ bs. onto-all bs (linesOf (drop (e + 1) text))) (sym grown);
+          ∙ sym (onto-push (take (e - o) (drop o text)) (getD text e 0) (linesOf (drop (e + 1) text)))
+          ∙ ap (λ bs. onto-all bs (linesOf (drop (e + 1) text))) (sym grown);
     }
 
 pub lines-here : (text : List ℕ) (o : ℕ) → o ≤ length text → linesFrom text o ≡ linesOf (drop o text)
@@ -68,13 +68,13 @@ lines-past text o h = ap (λ b. cond b (linesOf (drop o text)) []) (lt-leb o (le
 pub ends-newline : {text : List ℕ} {o e : ℕ} → Along text o e → e < length text → eqb (getD text e 0) 10 ≡ true → LineEnds text o e
 ends-newline {text} {o} {e} a h ten =
     let here : linesOf (drop e text) ≡ [] ∷ linesOf (drop (e + 1) text)
-         = ap linesOf (drop-more text e 0 h) ∙ ap (λ b. cond b ([] ∷ linesOf (drop (e + 1) text)) (onto (getD text e 0) (linesOf (drop (e + 1) text)))) ten in
+    = ap linesOf (drop-more text e 0 h) ∙ ap (λ b. cond b ([] ∷ linesOf (drop (e + 1) text)) (onto (getD text e 0) (linesOf (drop (e + 1) text)))) ten in
     record {
       after = a .after;
       inside = a .inside;
       is = lines-here text o (omega (arith, a .after, a .inside)) ∙ a .is ∙ ap (onto-all (take (e - o) (drop o text))) here
-        ∙ onto-first (take (e - o) (drop o text)) (linesOf (drop (e + 1) text))
-        ∙ ap (λ ls. take (e - o) (drop o text) ∷ ls) (sym (lines-here text (e + 1) (omega arith)));
+          ∙ onto-first (take (e - o) (drop o text)) (linesOf (drop (e + 1) text))
+          ∙ ap (λ ls. take (e - o) (drop o text) ∷ ls) (sym (lines-here text (e + 1) (omega arith)));
     }
 
 -- the line ends with the text
@@ -84,6 +84,6 @@ ends-text {text} {o} {e} a h =
       after = a .after;
       inside = a .inside;
       is = lines-here text o (omega (arith, a .after, a .inside)) ∙ a .is ∙ ap (λ s. onto-all (take (e - o) (drop o text)) (linesOf s)) (drop-all e text h)
-        ∙ onto-first (take (e - o) (drop o text)) []
-        ∙ ap (λ ls. take (e - o) (drop o text) ∷ ls) (sym (lines-past text (e + 1) (omega arith)));
+          ∙ onto-first (take (e - o) (drop o text)) []
+          ∙ ap (λ ls. take (e - o) (drop o text) ∷ ls) (sym (lines-past text (e + 1) (omega arith)));
     }

@@ -1,25 +1,22 @@
 -- Single words where a form of fixed shape wants them, against the reading of the whole line.
-use mathlib.Core.Path.{_≡_, refl, sym, ap, _∙_}
-use mathlib.Core.Bool.{Bool, true, false}
-use mathlib.Core.List.{List, [], _∷_, map}
+use mathlib.Core.Path.{_≡_, refl, ap, _∙_}
+use mathlib.Core.Bool.{false}
+use mathlib.Core.List.{List, [], _∷_}
 use Prim.Native.Nat.{ℕ, _+_, _≤_, _<_}
 use native.Mathlib.Nat.{add-assoc}
-use native.Mathlib.Omega.{arith}
 use lib.ListN.{length}
 use denote.Ref.{RefT}
-use Rattle.std.specs.declared.option.Option.{Option}
 use Rattle.words.specs.declared.Keyword.{Keyword}
 use Rattle.words.specs.declared.Keyword.the-variants.{Cell, Premise, In, To, Align, Apart}
 use Rattle.words.specs.declared.Placed.{Placed}
-use Rattle.words.specs.declared.Symbol.{Symbol}
 use Rattle.words.specs.declared.Token.{Token}
 use Rattle.words.specs.declared.Token.the-variants as token
-use Rattle.words.specs.Words.{Word, name, number, reserved, symbol, Spot, spot, meant}
+use Rattle.words.specs.Words.{Word, name, reserved, Spot, spot, meant}
 use Rattle.grammar.specs.Tree.{Name, Number, Line, nameSpot, at}
-use Rattle.grammar.specs.Parse.{Rest, rest, whole, nameNext, numberNext, toNext, parse, Step, off, refused, wrong, read, resting, went, State}
+use Rattle.grammar.specs.Parse.{Rest, rest, whole, nameNext, numberNext, toNext, parse, Step, off, refused, wrong, resting, went}
 use Rattle.sheet.specs.Reads.{limit, from}
 use Rattle.sheet.specs.Forms.{headed, headedBy, reservedSecond}
-use Rattle.sheet.proofs.Steps.{at-word, col, word-at, from-step, from-end, parse-at, parse-end}
+use Rattle.sheet.proofs.Steps.{at-word, col, word-at, from-step, from-end, parse-at}
 
 abbrev on-at : List Placed → ℕ → Step → Rattle.grammar.specs.Parse.Outcome
 on-at ws i k = went k (λ st. parse limit st (from ws (i + 1)))

@@ -1,10 +1,9 @@
 -- A whole line against its reading.
 use mathlib.Core.Path.{_≡_, refl, sym, ap, subst, _∙_}
-use mathlib.Core.Bool.{Bool, true, false, not}
+use mathlib.Core.Bool.{true, false, not}
 use mathlib.Core.List.{List, [], _∷_, _++_}
 use Prim.Native.Nat.{ℕ, zero, suc, _+_, _-_, _<_, _≤_}
 use native.Mathlib.Nat.{le-of-suc-le-suc, not-suc-le-zero}
-use native.Mathlib.Omega.{arith}
 use lib.ListN.{length}
 use denote.Ref.{RefT}
 use Rattle.std.specs.declared.option.Option.{Option}
@@ -17,20 +16,19 @@ use Rattle.words.specs.declared.Placed.{Placed}
 use Rattle.words.specs.declared.Symbol.the-variants.{Colon}
 use Rattle.words.specs.declared.Token.{Token}
 use Rattle.words.specs.declared.Token.the-variants as token
-use Rattle.words.specs.Words.{Word, name, number, reserved, symbol, Spot, spot, meant}
-use Rattle.grammar.specs.Tree.{Name, Owner, Body, Line, cell, premise, constraint, at, nameSpot}
+use Rattle.words.specs.Words.{name, reserved, symbol, Spot, meant}
+use Rattle.grammar.specs.Tree.{Name, Owner, Line, cell, premise, constraint, at, nameSpot}
 use Rattle.grammar.specs.Parse.{rest, nameNext, whole, read, parse, parseLine}
 use Rattle.faults.specs.declared.Found.{Found}
-use Rattle.plan.specs.declared.place.Place.{Place}
 use Rattle.plan.specs.Names.{Texts, premiseOf}
 use Rattle.meaning.specs.Making.{bodyMakes, placeOf, premiseNamed}
-use Rattle.meaning.specs.Checks.{first, wanted, bodyFault, newFault, lineFault}
+use Rattle.meaning.specs.Checks.{first, wanted, bodyFault}
 use Rattle.sheet.specs.declared.reading.Stop.{Stop}
 use Rattle.sheet.specs.Progress.{Progress}
-use Rattle.sheet.specs.Reads.{limit, spots, from, begins, Ends}
+use Rattle.sheet.specs.Reads.{limit, spots, from, begins}
 use Rattle.sheet.specs.Forms.{plain, openedBy, declares, Near, NameRead, NewRead, DeclarationTells, BodyTells, LineLeaves, LineTells}
 use Rattle.sheet.proofs.Same.{first-assoc}
-use Rattle.sheet.proofs.Steps.{at-word, col, word-at, from-step, says}
+use Rattle.sheet.proofs.Steps.{at-word, word-at, from-step, says}
 use Rattle.sheet.proofs.Symbols.{clash}
 
 -- ---- how a line begins
@@ -85,19 +83,29 @@ place-is t o c len n col-is len-is = λ i. record { text = t; start = o + (sym c
 module _ {ts : Texts} {p m : Progress} {ws : List Placed} {c len : ℕ} (r : NewRead ts p ws c len m) (t o : ℕ) (e : Progress) where
   pub cell-declared : e ≡ record { items = record { cells = m .items .cells ++ Some (record { text = t; start = o + (c - 1); len = len }) ∷ []; premises = m .items .premises; constraints = m .items .constraints }; found = m .found } → (k : ℕ) → (n : Name) × ((declared cell k ws ≡ read (cell k n)) × LineLeaves ts t o (cell k n) p e)
   cell-declared end k =
-      let place = place-is t o c len (r .new) (r .column-is) (r .length-is) in
-      (r .new, (r .goes (cell k), record {
-        found = ap (λ x. x .found) end ∙ ap (λ x. x .found) (r .leaves);
-        items = λ _. ap (λ x. x .items) end ∙ (λ i. record { cells = r .leaves i .items .cells ++ Some (place i) ∷ []; premises = r .leaves i .items .premises; constraints = r .leaves i .items .constraints });
-      }))
+      let place = place-is t o c len (r .new) (r .column-is) (r .length-is) in (
+        r .new,
+        (
+          r .goes (cell k),
+          record {
+            found = ap (λ x. x .found) end ∙ ap (λ x. x .found) (r .leaves);
+            items = λ _. ap (λ x. x .items) end ∙ (λ i. record { cells = r .leaves i .items .cells ++ Some (place i) ∷ []; premises = r .leaves i .items .premises; constraints = r .leaves i .items .constraints });
+          },
+        ),
+      )
 
   pub premise-declared : e ≡ record { items = record { cells = m .items .cells; premises = m .items .premises ++ record { text = t; start = o + (c - 1); len = len } ∷ []; constraints = m .items .constraints }; found = m .found } → (k : ℕ) → (n : Name) × ((declared premise k ws ≡ read (premise k n)) × LineLeaves ts t o (premise k n) p e)
   premise-declared end k =
-      let place = place-is t o c len (r .new) (r .column-is) (r .length-is) in
-      (r .new, (r .goes (premise k), record {
-        found = ap (λ x. x .found) end ∙ ap (λ x. x .found) (r .leaves);
-        items = λ _. ap (λ x. x .items) end ∙ (λ i. record { cells = r .leaves i .items .cells; premises = r .leaves i .items .premises ++ place i ∷ []; constraints = r .leaves i .items .constraints });
-      }))
+      let place = place-is t o c len (r .new) (r .column-is) (r .length-is) in (
+        r .new,
+        (
+          r .goes (premise k),
+          record {
+            found = ap (λ x. x .found) end ∙ ap (λ x. x .found) (r .leaves);
+            items = λ _. ap (λ x. x .items) end ∙ (λ i. record { cells = r .leaves i .items .cells; premises = r .leaves i .items .premises ++ place i ∷ []; constraints = r .leaves i .items .constraints });
+          },
+        ),
+      )
 
 -- ---- the line
 
@@ -119,12 +127,17 @@ pub line-owned : (r : Result (Unit {0}) Stop) (ts : Texts) (t o i k : ℕ) (n : 
 line-owned (Ok u) ts t o i k n p m e ws is own mid d =
     let q : Owner = record { premise = n; colon = k } in
     let w = d (Some q) tt in
-    let f = wanted (premiseOf ts (p .items .premises) (n .bytes)) (n .column) in
-    (constraint (Some q) (w .0), (ap (parse limit (Rattle.grammar.specs.Parse.body None)) is ∙ w .1 .0, record {
-      found = w .1 .1 .found ∙ ap (λ x. first (x .found) (bodyFault ts (x .items) (w .0))) mid ∙ first-assoc (p .found) f (bodyFault ts (p .items) (w .0));
-      items = λ fine.
-        let none = second-none f (bodyFault ts (p .items) (w .0)) fine in
-        w .1 .1 .items (ap (λ x. bodyFault ts (x .items) (w .0)) mid ∙ none) ∙ (λ j. bodyMakes ts (Some (own j)) (w .0) (mid j .items));
-    }))
+    let f = wanted (premiseOf ts (p .items .premises) (n .bytes)) (n .column) in (
+      constraint (Some q) (w .0),
+      (
+        ap (parse limit (Rattle.grammar.specs.Parse.body None)) is ∙ w .1 .0,
+        record {
+          found = w .1 .1 .found ∙ ap (λ x. first (x .found) (bodyFault ts (x .items) (w .0))) mid ∙ first-assoc (p .found) f (bodyFault ts (p .items) (w .0));
+          items = λ fine.
+              let none = second-none f (bodyFault ts (p .items) (w .0)) fine in
+              w .1 .1 .items (ap (λ x. bodyFault ts (x .items) (w .0)) mid ∙ none) ∙ (λ j. bodyMakes ts (Some (own j)) (w .0) (mid j .items));
+        },
+      ),
+    )
 line-owned (Err r) ts t o i k n p m e ws is own mid d =
     says r (ap (parse limit (Rattle.grammar.specs.Parse.body None)) is) (d (Some (record { premise = n; colon = k })) tt)

@@ -1,5 +1,5 @@
 -- Helpers have no name, so a name means the same after them.
-use mathlib.Core.Path.{_≡_, refl, sym, ap, _∙_}
+use mathlib.Core.Path.{_≡_, refl, ap, _∙_}
 use mathlib.Core.Bool.{Bool, false, cond}
 use mathlib.Core.List.{List, [], _∷_, _++_}
 use Prim.Native.Nat.{ℕ, _+_}
@@ -41,7 +41,7 @@ mutual
   same-expr ts q (one t) d = same-term ts q t d
   same-expr ts q (plus x c t) d =
       same-then (same-expr ts q x d) (same-then (same-term ts q t (makes ts q x d .then))
-        (record { cells = λ b. first-past 0 (λ p. spells (nameAt ts p) b) (makesTerm ts q t (makes ts q x d .then) .then .cells) refl; premises = refl }))
+      (record { cells = λ b. first-past 0 (λ p. spells (nameAt ts p) b) (makesTerm ts q t (makes ts q x d .then) .then .cells) refl; premises = refl }))
 
   pub same-term : (ts : Texts) (q : Option ℕ) (t : Term) (d : Items) → Same ts d (makesTerm ts q t d .then)
   same-term ts q (named n) d = same-all

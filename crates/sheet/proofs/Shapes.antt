@@ -1,28 +1,27 @@
 -- Constraints against the reading of the whole line.
 use mathlib.Core.Path.{_≡_, refl, sym, ap, subst, subst₂, _∙_}
 use mathlib.Core.HLevel.{isProp→PathP}
-use mathlib.Core.Bool.{Bool, true, false, cond}
-use mathlib.Core.List.{List, [], _∷_, _++_}
+use mathlib.Core.Bool.{true, false}
+use mathlib.Core.List.{List}
 use Prim.Native.Nat.{ℕ, _+_, _%_, _^_, min, _<_, _≤_}
 use native.Mathlib.Bridge.{le-prop}
 use native.Mathlib.Nat.{add-assoc, mod-eq-of-lt}
 use native.Mathlib.Omega.{arith}
 use lib.Dec.{ltb}
 use borrow.Author.Tests.{lt-ltb, le-ltb}
-use lib.IntN.{ℤ, pos}
-use lib.ListN.{length}
+use lib.IntN.{ℤ}
 use Rattle.std.specs.declared.option.Option.{Option}
 use Rattle.std.specs.declared.option.Option.the-variants.{Some, None}
 use Rattle.std.specs.declared.result.Result.{Result}
 use Rattle.std.specs.declared.result.Result.the-variants.{Ok, Err}
 use Rattle.words.specs.declared.Placed.{Placed}
-use Rattle.grammar.specs.Tree.{Name, Number, Owner, Body, within, aligned, apart, atMost, Line, constraint}
+use Rattle.grammar.specs.Tree.{Name, Number, Owner, Body, within, aligned, apart, Line, constraint}
 use Rattle.grammar.specs.Parse.{Rest, rest, whole, nameNext, numberNext, toNext, afterIn, afterAlign, afterApart, read, parse}
 use Rattle.statements.specs.Aligned.{Made}
 use Rattle.statements.specs.declared.residue.Residue.{Residue}
 use Rattle.statements.specs.declared.statement.Statement.the-variants.{Between, Aligned}
 use Rattle.plan.specs.declared.constraint.Form.{Form}
-use Rattle.plan.specs.declared.constraint.Form.the-variants.{State, Gap, Apart}
+use Rattle.plan.specs.declared.constraint.Form.the-variants.{State, Apart}
 use Rattle.plan.specs.Items.{Items}
 use Rattle.plan.specs.Names.{Texts}
 use Rattle.faults.specs.declared.Found.{Found}
@@ -58,9 +57,9 @@ leaves ts q b p m e f mid made end = record {
 
 -- a form of fixed shape whose constraint was pushed, or found no memory
 pub pushed : (after : Option Owner → Name → ℕ → Rest) (r : Result (Unit {0}) Stop) (ts : Texts) (q : Option ℕ) (n : Name) (p m e : Progress) (ws : List Placed) (i : ℕ) (f : Form)
-  → Pushed r (adds q f (m .items)) (m .found) e
-  → ((o : Option Owner) (c : ℕ) → (b : Body) × ((goes ws (after o n c) i ≡ read (constraint o b)) × ((m ≡ record { items = p .items; found = first (p .found) (bodyFault ts (p .items) b) }) × (bodyMakes ts q b (p .items) ≡ adds q f (p .items)))))
-  → FormTells after r ts q n p ws i e
+    → Pushed r (adds q f (m .items)) (m .found) e
+    → ((o : Option Owner) (c : ℕ) → (b : Body) × ((goes ws (after o n c) i ≡ read (constraint o b)) × ((m ≡ record { items = p .items; found = first (p .found) (bodyFault ts (p .items) b) }) × (bodyMakes ts q b (p .items) ≡ adds q f (p .items)))))
+    → FormTells after r ts q n p ws i e
 pushed after (Ok u) ts q n p m e ws i f end all = λ o c. let w = all o c in (w .0, (w .1 .0, leaves ts q (w .0) p m e f (w .1 .1 .0) (w .1 .1 .1) end))
 pushed after (Err r) ts q n p m e ws i f end all = λ o c. out-of-memory r (goes ws (after o n c) i) end
 
@@ -139,7 +138,7 @@ not-some (Some g) f e = let z : _≡_ {A = ℕ} 0 1 = cc in omega arith
 pub range-noted : (ts : Texts) (q : Option ℕ) (n : Name) (c : ℕ) (k r : Number) (p m e : Progress) (at-column : ℕ) → m ≡ afterName ts n p → e ≡ noted m Range at-column → rangeFault k r ≡ at Range at-column → Leaves ts q (aligned n c k r) p e
 range-noted ts q n c k r p m e i mid end wide = record {
   found = ap (λ x. x .found) end ∙ ap (λ x. first (x .found) (at Range i)) mid ∙ first-assoc (p .found) (cellFault ts (p .items) n) (at Range i)
-    ∙ ap (λ f. first (p .found) (first (cellFault ts (p .items) n) f)) (sym wide);
+      ∙ ap (λ f. first (p .found) (first (cellFault ts (p .items) n) f)) (sym wide);
   items = λ none. absurd (not-some (cellFault ts (p .items) n) (record { problem = Range; column = i }) (ap (first (cellFault ts (p .items) n)) (sym wide) ∙ none));
 }
 
@@ -162,7 +161,7 @@ range-fine k r h g =
     rw (t, u) refl
 
 residue-ext : (a b : Residue) → a .k ≡ b .k → a .r ≡ b .r → a ≡ b
-residue-ext a b p q = λ i. record { k = p i; r = q i; fine = isProp→PathP (λ j. p j ≤ 24) (λ j. le-prop) (a .fine) (b .fine) i; rest = isProp→PathP (λ j. q j < 2 ^ p j) (λ j. le-prop) (a .rest) (b .rest) i }
+residue-ext a b p q = λ i. record { k = p i; r = q i; fine = isProp→PathP (λ j. p j ≤ 24) (λ j. le-prop) (a .fine) (b .fine) i; below = isProp→PathP (λ j. q j < 2 ^ p j) (λ j. le-prop) (a .below) (b .below) i }
 
 -- a power and a rest within their ranges
 module _ (k r : Number) (a : Residue) (made : Made (k .value) (r .value) (Some a)) where
@@ -170,14 +169,14 @@ module _ (k r : Number) (a : Residue) (made : Made (k .value) (r .value) (Some a
   fine-power = omega (arith, made .0, a .fine)
 
   small-rest : r .value < 2 ^ k .value
-  small-rest = subst₂ (λ x y. x < 2 ^ y) (made .1) (made .0) (a .rest)
+  small-rest = subst₂ (λ x y. x < 2 ^ y) (made .1) (made .0) (a .below)
 
   aligned-is : Aligned a ≡ alignedTo (k .value) (r .value)
   aligned-is =
       let same : min (k .value) 24 ≡ k .value = omega (arith, fine-power) in
-      ap Aligned (residue-ext a (record { k = min (k .value) 24; r = r .value % 2 ^ min (k .value) 24; fine = power-fine (k .value); rest = rest-small (k .value) (r .value) })
-        (made .0 ∙ sym same)
-        (made .1 ∙ sym (mod-eq-of-lt small-rest) ∙ ap (λ x. r .value % 2 ^ x) (sym same)))
+      ap Aligned (residue-ext a (record { k = min (k .value) 24; r = r .value % 2 ^ min (k .value) 24; fine = power-fine (k .value); below = rest-small (k .value) (r .value) })
+      (made .0 ∙ sym same)
+      (made .1 ∙ sym (mod-eq-of-lt small-rest) ∙ ap (λ x. r .value % 2 ^ x) (sym same)))
 
   pub align-made : (ts : Texts) (q : Option ℕ) (n : Name) (p : Progress) {c : ℕ} → c ≡ cellNamed ts (p .items) (n .bytes) → adds q (State (cellNamed ts (p .items) (n .bytes)) (alignedTo (k .value) (r .value))) (p .items) ≡ adds q (State c (Aligned a)) (p .items)
   align-made ts q n p cell = λ j. adds q (State (sym cell j) (sym aligned-is j)) (p .items)

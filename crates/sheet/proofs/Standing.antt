@@ -70,9 +70,9 @@ part-in text bytes b o k at low is =
     let small : length b ≤ m = omega arith in
     let whole : k + m ≡ length bytes = omega arith in
     let past : drop k bytes ≡ take m (drop k (drop o text)) =
-        ap (drop k) (sym (at .here)) ∙ ap (λ n. drop k (take n (drop o text))) (sym whole) ∙ drop-take k m (drop o text) in
+    ap (drop k) (sym (at .here)) ∙ ap (λ n. drop k (take n (drop o text))) (sym whole) ∙ drop-take k m (drop o text) in
     let same : take (length b) (drop (o + k) text) ≡ b =
-        ap (take (length b)) (sym (drop-drop k o text)) ∙ sym (take-take (length b) m (drop k (drop o text)) small) ∙ ap (take (length b)) (sym past) ∙ is in
+    ap (take (length b)) (sym (drop-drop k o text)) ∙ sym (take-take (length b) m (drop k (drop o text)) small) ∙ ap (take (length b)) (sym past) ∙ is in
     let fine : leb (o + k + length b) (length text) ≡ true = le-leb (o + k + length b) (length text) (omega (arith, at .inside)) in
     ap (λ v. cond v (Some (take (length b) (drop (o + k) text))) None) fine ∙ ap (λ (r : List ℕ). Some r) same
 

@@ -1,12 +1,12 @@
 -- One step of the expression readers against the reading of the whole line.
 use mathlib.Core.Path.{_≡_, refl, sym, ap, subst, _∙_}
-use mathlib.Core.Bool.{Bool, true, false, cond}
+use mathlib.Core.Bool.{true, false}
 use mathlib.Core.List.{List, [], _∷_, map}
-use Prim.Native.Nat.{ℕ, suc, _+_, _≤_, _<_}
+use Prim.Native.Nat.{ℕ, _+_, _≤_, _<_}
 use native.Mathlib.Numerals.{add-one}
 use native.Mathlib.Omega.{arith}
 use lib.Dec.{ltb}
-use lib.ListN.{length, getD, drop}
+use lib.ListN.{length, getD}
 use lib.Seq.{drop-cons}
 use borrow.Author.Tests.{lt-ltb, le-ltb}
 use Rattle.std.proofs.shelf.Lists.{drop-all}
@@ -19,9 +19,9 @@ use Rattle.words.specs.declared.Symbol.{Symbol}
 use Rattle.words.specs.declared.Symbol.the-variants.{Colon, Plus, Open, Close, AtMost, Equals}
 use Rattle.words.specs.declared.Placed.{Placed}
 use Rattle.words.specs.declared.Token.the-variants as token
-use Rattle.words.specs.Words.{Word, name, number, reserved, symbol, Spot, spot, meant}
+use Rattle.words.specs.Words.{Word, name, number, reserved, symbol, spot, meant}
 use Rattle.grammar.specs.Tree.{Expr, one, plus, Term, named, counted, group, Owner}
-use Rattle.grammar.specs.Parse.{Pending, Side, Stack, State, need, have, Outcome, refused, wrong, deeper, short, join, parse, Step, on, off, needing as needingWord, had, closing, crossing, step, went, ending}
+use Rattle.grammar.specs.Parse.{Pending, Side, Stack, State, need, have, Outcome, refused, wrong, short, parse, off, needing as needingWord, had, crossing, step, went, ending}
 use Rattle.plan.specs.Names.{Texts}
 use Rattle.meaning.specs.Making.{makesNumber, makesSum, cellNamed, makes, makesTerm}
 use Rattle.meaning.specs.Checks.{first, exprFault, termFault}
@@ -29,9 +29,9 @@ use Rattle.sheet.specs.declared.reading.Stop.{Stop}
 use Rattle.sheet.specs.declared.reading.Stop.the-variants as stop
 use Rattle.sheet.specs.Growing.{grows, growsTerm, afterName}
 use Rattle.sheet.specs.Progress.{Progress}
-use Rattle.sheet.specs.Reads.{limit, spots, from, Ends, marks, begins, Halts, ReadsTerm, ReadsExpr, needing, having, SumsTell, ExpressionTells}
+use Rattle.sheet.specs.Reads.{limit, from, Ends, marks, begins, Halts, ReadsTerm, ReadsExpr, needing, SumsTell, ExpressionTells}
 use Rattle.sheet.proofs.Same.{first-assoc, first-none, same-expr, term-fault-same}
-use Rattle.sheet.proofs.Symbols.{never, marks-is}
+use Rattle.sheet.proofs.Symbols.{never}
 
 -- what stands for a word past the end
 abbrev pub none : Placed
@@ -151,9 +151,11 @@ module _ (ws : List Placed) (depth : ℕ) (p : Pending) where
 
   pub deep-here : (i : ℕ) → i < length ws → word-at ws i ≡ symbol Open → 16 ≤ depth → Halts ws depth (needing p) i (stop.Deep (col ws i))
   deep-here i h is big =
-      record { ends = λ o s σ len.
-        let full : ltb (length σ) 16 ≡ false = le-ltb (length σ) 16 (omega arith) in
-        need-at ws i (symbol Open) h is o s p σ ∙ rw full refl }
+      record {
+        ends = λ o s σ len.
+            let full : ltb (length σ) 16 ≡ false = le-ltb (length σ) 16 (omega arith) in
+            need-at ws i (symbol Open) h is o s p σ ∙ rw full refl;
+      }
 
   pub inner-halts : (i : ℕ) {r : Stop} → i < length ws → word-at ws i ≡ symbol Open → depth < 16 → Halts ws (depth + 1) (needing None) (i + 1) r → Halts ws depth (needing p) i r
   inner-halts i {r} h is small t = record { ends = λ o s σ len. says r (opened ws i h is o s p σ (omega arith)) (t .ends o s ((p, col ws i) ∷ σ) (omega arith)) }
@@ -178,9 +180,11 @@ module _ (ts : Texts) (q : Option ℕ) (ws : List Placed) (depth : ℕ) where
 
   pub inner-wrong : (d e : Progress) (p : Pending) (i j c : ℕ) → i < length ws → word-at ws i ≡ symbol Open → depth < 16 → ReadsExpr ts q ws (depth + 1) d (needing None) (i + 1) c e j → j < length ws → marks Plus (word-at ws j) ≡ false → marks Close (word-at ws j) ≡ false → Halts ws depth (needing p) i (stop.Word (col ws j))
   inner-wrong d e p i j c h is small t there plain shut =
-      record { ends = λ o s σ len.
-        opened ws i h is o s p σ (omega arith) ∙ t .goes o s ((p, col ws i) ∷ σ) (omega arith) ∙ have-at ws j (word-at ws j) there refl o s (t .tree) ((p, col ws i) ∷ σ)
-        ∙ ap (λ k. went k (λ st. parse limit st (from ws (j + 1)))) (stuck-in o s (t .tree) (p, col ws i) σ (col ws j) (word-at ws j) plain shut) }
+      record {
+        ends = λ o s σ len.
+            opened ws i h is o s p σ (omega arith) ∙ t .goes o s ((p, col ws i) ∷ σ) (omega arith) ∙ have-at ws j (word-at ws j) there refl o s (t .tree) ((p, col ws i) ∷ σ)
+            ∙ ap (λ k. went k (λ st. parse limit st (from ws (j + 1)))) (stuck-in o s (t .tree) (p, col ws i) σ (col ws j) (word-at ws j) plain shut);
+      }
 
   pub inner : (d e : Progress) (i j c : ℕ) → i < length ws → word-at ws i ≡ symbol Open → depth < 16 → ReadsExpr ts q ws (depth + 1) d (needing None) (i + 1) c e j → j < length ws → word-at ws j ≡ symbol Close → ReadsTerm ts q ws depth d i c e (j + 1)
   inner d e i j c h is small t there shut =

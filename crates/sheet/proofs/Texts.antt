@@ -1,6 +1,6 @@
 -- Lines and texts against what they are read as.
 use mathlib.Core.Path.{_≡_, refl, sym, ap, subst, _∙_}
-use mathlib.Core.Bool.{Bool, true, false, cond}
+use mathlib.Core.Bool.{true, false}
 use mathlib.Core.List.{List, [], _∷_, map}
 use Prim.Native.Nat.{ℕ, _+_, _-_, _<_, _≤_}
 use native.Mathlib.Omega.{arith}
@@ -16,10 +16,9 @@ use Rattle.words.specs.declared.Slip.{Slip}
 use Rattle.words.specs.Spelling.{Stands, Each}
 use Rattle.words.specs.declared.ReadError.{ReadError}
 use Rattle.words.specs.declared.ReadError.the-variants.{Fault as ReadFault}
-use Rattle.words.specs.Words.{Spot, spot, wordsOf, Tells}
+use Rattle.words.specs.Words.{spot, wordsOf, Tells}
 use Rattle.words.proofs.Spelling.{words-stand}
-use Rattle.grammar.specs.Tree.{Line}
-use Rattle.grammar.specs.Parse.{Outcome, refused, wrong, deeper, short, parseLine}
+use Rattle.grammar.specs.Parse.{parseLine}
 use Rattle.faults.specs.declared.Fault.{Fault}
 use Rattle.faults.specs.declared.Found.{Found}
 use Rattle.faults.specs.declared.Problem.{Problem}
@@ -35,8 +34,8 @@ use Rattle.sheet.specs.declared.sheets.Trouble.{Trouble}
 use Rattle.sheet.specs.declared.sheets.Trouble.the-variants as trouble
 use Rattle.sheet.specs.Progress.{Progress}
 use Rattle.sheet.specs.Reads.{limit, spots, Ends}
-use Rattle.sheet.specs.Forms.{Near, LineLeaves, LineTells}
-use Rattle.sheet.specs.Sheets.{slipProblem, refusalFound, checked, limited, parsed, worded, lineRead, linesRead, linesOf, onward, longest, tooLong, andThen, sheetsRead}
+use Rattle.sheet.specs.Forms.{Near, LineTells}
+use Rattle.sheet.specs.Sheets.{slipProblem, checked, limited, parsed, worded, lineRead, linesRead, linesOf, onward, longest, tooLong, andThen, sheetsRead}
 use Rattle.sheet.specs.Answers.{StopTells, Ended, LineReads, linesFrom, LineEnds, TextReads, BothRead}
 use Rattle.sheet.proofs.Ends.{lines-here, lines-past}
 
@@ -83,8 +82,8 @@ line-ended a ts t o p e bytes ws u fresh is tells end =
     let leaves = tells .1 .1 in
     let found : e .found ≡ lineFault ts (p .items) l = leaves .found ∙ ap (λ f. first f (lineFault ts (p .items) l)) fresh in
     let whole : lineRead ts t o (p .items) bytes ≡ checked (e .found) (e .items)
-         = words-read ts t o (p .items) bytes ws is ∙ ap (parsed ts t o (length bytes) (p .items)) (tells .1 .0)
-           ∙ checks (lineFault ts (p .items) l) (lineMakes ts t o l (p .items)) (e .items) (e .found) found (leaves .items) in
+    = words-read ts t o (p .items) bytes ws is ∙ ap (parsed ts t o (length bytes) (p .items)) (tells .1 .0)
+    ∙ checks (lineFault ts (p .items) l) (lineMakes ts t o l (p .items)) (e .items) (e .found) found (leaves .items) in
     go a whole end
   where
     go : (a : Result (Unit {0}) Trouble) → lineRead ts t o (p .items) bytes ≡ checked (e .found) (e .items) → Ended a e → LineReads a ts t o (p .items) bytes e
@@ -124,7 +123,7 @@ module _ {ts : Texts} {t : ℕ} {d : Items} {text : List ℕ} {k o : ℕ} {p : P
     line-small = omega (arith, u .line-small, ends .after);
     inside = omega (arith, ends .inside);
     reads = first-read ∙ ap (λ x. onward t k x (λ e. linesRead ts t (k + 1) (o + length bytes + 1) (linesFrom text (r + 1)) e)) (line .0)
-      ∙ (let next : o + length bytes + 1 ≡ r + 1 = omega (arith, bytes-long, ends .after) in ap (λ n. linesRead ts t (k + 1) n (linesFrom text (r + 1)) (e .items)) next);
+        ∙ (let next : o + length bytes + 1 ≡ r + 1 = omega (arith, bytes-long, ends .after) in ap (λ n. linesRead ts t (k + 1) n (linesFrom text (r + 1)) (e .items)) next);
   }
 
   pub upto-fault : (f : Found) → lineRead ts t o (p .items) bytes ≡ Err f → linesRead ts t 1 0 (linesOf text) d ≡ Err (record { problem = f .problem; text = t; line = k; column = f .column })

@@ -14,7 +14,7 @@ use Rattle.words.specs.declared.Keyword.the-variants.{Cell, Premise, In, To, Al
 use Rattle.words.specs.declared.Placed.{Placed}
 use Rattle.words.specs.declared.Symbol.the-variants.{Colon}
 use Rattle.words.specs.Words.{Word, name, number, reserved, symbol, Spot}
-use Rattle.grammar.specs.Tree.{Name, Number, Owner, Expr, Body, atMost, Line, constraint, at, nameSpot}
+use Rattle.grammar.specs.Tree.{Name, Number, Owner, Body, Line, constraint, at, nameSpot}
 use Rattle.grammar.specs.Parse.{Rest, rest, body, need, nameNext, numberNext, toNext, whole, read, parse, parseLine}
 use Rattle.plan.specs.Names.{Texts}
 use Rattle.meaning.specs.Making.{bodyMakes, lineMakes}

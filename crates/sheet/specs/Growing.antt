@@ -3,7 +3,7 @@ use Prim.Native.Nat.{ℕ}
 use Rattle.std.specs.declared.option.Option.{Option}
 use Rattle.plan.specs.Names.{Texts}
 use Rattle.grammar.specs.Tree.{Name, Expr, Term}
-use Rattle.meaning.specs.Making.{makes, makesTerm, cellNamed}
+use Rattle.meaning.specs.Making.{makes, makesTerm}
 use Rattle.meaning.specs.Checks.{first, exprFault, termFault, cellFault}
 use Rattle.sheet.specs.Progress.{Progress}
 

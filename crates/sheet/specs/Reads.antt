@@ -1,24 +1,24 @@
 -- What the readers of a line answer: how the reading of the whole line goes on, whatever stands around.
 use mathlib.Core.Path.{_≡_}
-use mathlib.Core.Bool.{Bool, true, false}
+use mathlib.Core.Bool.{Bool, false}
 use mathlib.Core.List.{List, [], _∷_, map}
-use Prim.Native.Nat.{ℕ, _+_, _≤_, _<_}
+use Prim.Native.Nat.{ℕ, _≤_, _<_}
 use lib.Dec.{eqb}
 use lib.ListN.{length, drop}
 use Rattle.std.specs.declared.option.Option.{Option}
-use Rattle.std.specs.declared.option.Option.the-variants.{Some, None}
+use Rattle.std.specs.declared.option.Option.the-variants.{None}
 use Rattle.std.specs.declared.result.Result.{Result}
 use Rattle.std.specs.declared.result.Result.the-variants.{Ok, Err}
 use Rattle.words.specs.declared.Placed.{Placed}
 use Rattle.words.specs.declared.Symbol.{Symbol}
 use Rattle.words.specs.declared.Symbol.the-variants.{Colon, Plus, Open, Close, AtMost, Equals}
 use Rattle.words.specs.Words.{Word, name, number, reserved, symbol, Spot, spot}
-use Rattle.grammar.specs.Tree.{Name, Number, Expr, Term, Owner}
-use Rattle.grammar.specs.Parse.{Pending, Side, Stack, Rest, State, rest, need, have, nameNext, numberNext, toNext, whole, Outcome, read, refused, wrong, deeper, short, join, parse}
+use Rattle.grammar.specs.Tree.{Expr, Term, Owner}
+use Rattle.grammar.specs.Parse.{Pending, Side, Stack, State, need, have, Outcome, refused, wrong, deeper, short, join, parse}
 use Rattle.plan.specs.Names.{Texts}
 use Rattle.sheet.specs.declared.reading.Stop.{Stop}
 use Rattle.sheet.specs.declared.reading.Stop.the-variants as stop
-use Rattle.sheet.specs.Growing.{grows, growsTerm, afterName}
+use Rattle.sheet.specs.Growing.{grows, growsTerm}
 use Rattle.sheet.specs.Progress.{Progress}
 
 -- parentheses nest at most so deep

@@ -1,6 +1,5 @@
 -- What two texts are read as: line by line, the first faulty line, on it reader, grammar and sheet in turn, each from the left.
-use mathlib.Core.Path.{_≡_}
-use mathlib.Core.Bool.{Bool, cond}
+use mathlib.Core.Bool.{cond}
 use mathlib.Core.List.{List, [], _∷_, _++_, map}
 use Prim.Native.Nat.{ℕ, _+_}
 use lib.Dec.{eqb, ltb}
@@ -98,7 +97,7 @@ sheetsRead chip project =
     cond (ltb longest (length chip)) (Err (tooLong 0))
     (cond (ltb longest (length project)) (Err (tooLong 1))
     (andThen (linesRead (chip ∷ project ∷ []) 0 1 0 (linesOf chip) nothing)
-      (λ d. linesRead (chip ∷ project ∷ []) 1 1 0 (linesOf project) d)))
+    (λ d. linesRead (chip ∷ project ∷ []) 1 1 0 (linesOf project) d)))
 
 -- ---- what the lines of two texts say
 

@@ -32,11 +32,21 @@ pub(crate) fn is(word: Placed<'_>, symbol: Symbol) -> bool
 }
 
 // The cell that a name means; a name that is not known is noted.
-pub(crate) fn cell_named(reading: &mut Reading, texts: Texts<'_>, name: &[u8], column: usize) -> usize
+pub(crate) fn cell_named(
+    reading: &mut Reading,
+    texts: Texts<'_>,
+    name: &[u8],
+    column: usize,
+) -> usize
     ensures cell { λ r. ⌜ r ≡ cellNamed (now (texts .entry .chip) ∷ now (texts .entry .project) ∷ []) (drafted (now (reading .entry) .draft)) (now (name .entry)) ⌝ }
     ensures after { λ r. ⌜ progress (now (reading .exit)) ≡ afterName (now (texts .entry .chip) ∷ now (texts .entry .project) ∷ []) (record { column = column; bytes = now (name .entry) }) (progress (now (reading .entry))) ⌝ }
 {
-    match find_cell(reading.draft.cells.as_slice(), texts.chip, texts.project, name) {
+    match find_cell(
+        reading.draft.cells.as_slice(),
+        texts.chip,
+        texts.project,
+        name,
+    ) {
         Some(cell) => cell,
         None => {
             reading.note(Problem::Unknown, column);

@@ -1,5 +1,4 @@
 // Constraints: the forms of fixed shape, and two expressions joined by `<=`.
-ghost use mathlib.Core.Path.{_≡_};
 ghost use mathlib.Core.List.{[], _∷_};
 ghost use Prim.Native.Nat.{_≤_};
 ghost use lib.ListN.{length};

@@ -55,9 +55,19 @@ fn opening<'a>(words: &[Placed<'a>]) -> Opening<'a>
 fn note_new(reading: &mut Reading, texts: Texts<'_>, name: &[u8], column: usize)
     ensures { λ r. ⌜ progress (now (reading .exit)) ≡ record { items = drafted (now (reading .entry) .draft); found = first (now (reading .entry) .found) (newFault (now (texts .entry .chip) ∷ now (texts .entry .project) ∷ []) (drafted (now (reading .entry) .draft)) (record { column = column; bytes = now (name .entry) })) } ⌝ }
 {
-    match find_cell(reading.draft.cells.as_slice(), texts.chip, texts.project, name) {
+    match find_cell(
+        reading.draft.cells.as_slice(),
+        texts.chip,
+        texts.project,
+        name,
+    ) {
         Some(_) => reading.note(Problem::Twice, column),
-        None => match find_premise(reading.draft.premises.as_slice(), texts.chip, texts.project, name) {
+        None => match find_premise(
+            reading.draft.premises.as_slice(),
+            texts.chip,
+            texts.project,
+            name,
+        ) {
             Some(_) => reading.note(Problem::Twice, column),
             None => {}
         },
@@ -65,7 +75,11 @@ fn note_new(reading: &mut Reading, texts: Texts<'_>, name: &[u8], column: usize)
 }
 
 // The column and the length of the name that a line declares.
-fn new_name(reading: &mut Reading, texts: Texts<'_>, words: &[Placed<'_>]) -> Result<(usize, usize), Stop>
+fn new_name(
+    reading: &mut Reading,
+    texts: Texts<'_>,
+    words: &[Placed<'_>],
+) -> Result<(usize, usize), Stop>
     requires { ⌜ Near (now words) ⌝ }
     ensures { λ r. ⌜ NewTells r (now (texts .entry .chip) ∷ now (texts .entry .project) ∷ []) (progress (now (reading .entry))) (now (words .entry)) (progress (now (reading .exit))) ⌝ }
 {
@@ -89,7 +103,11 @@ fn declare_cell(
 {
     let (column, len) = new_name(reading, texts, words)?;
     let start = offset + column.saturating_sub(1);
-    if reading.draft.cells.push(Some(Place { text, start, len })).is_err() {
+    if reading
+        .draft
+        .cells
+        .push(Some(Place { text, start, len }))
+        .is_err() {
         return Err(Stop::Memory);
     }
     Ok(())
@@ -109,7 +127,11 @@ fn declare_premise(
 {
     let (column, len) = new_name(reading, texts, words)?;
     let start = offset + column.saturating_sub(1);
-    if reading.draft.premises.push(Place { text, start, len }).is_err() {
+    if reading
+        .draft
+        .premises
+        .push(Place { text, start, len })
+        .is_err() {
         return Err(Stop::Memory);
     }
     Ok(())
@@ -120,7 +142,12 @@ fn premise_named(reading: &mut Reading, texts: Texts<'_>, name: &[u8], column: u
     ensures premise { λ r. ⌜ r ≡ premiseNamed (now (texts .entry .chip) ∷ now (texts .entry .project) ∷ []) (drafted (now (reading .entry) .draft)) (now (name .entry)) ⌝ }
     ensures after { λ r. ⌜ progress (now (reading .exit)) ≡ record { items = drafted (now (reading .entry) .draft); found = first (now (reading .entry) .found) (wanted (premiseOf (now (texts .entry .chip) ∷ now (texts .entry .project) ∷ []) (drafted (now (reading .entry) .draft) .premises) (now (name .entry))) column) } ⌝ }
 {
-    match find_premise(reading.draft.premises.as_slice(), texts.chip, texts.project, name) {
+    match find_premise(
+        reading.draft.premises.as_slice(),
+        texts.chip,
+        texts.project,
+        name,
+    ) {
         Some(found) => found,
         None => {
             reading.note(Problem::Unknown, column);

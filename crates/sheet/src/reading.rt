@@ -1,10 +1,7 @@
 // What is being read: the texts, the draft so far, and what was found wrong in the line.
 ghost use mathlib.Core.Path.{_≡_};
-ghost use mathlib.Core.List.{[], _∷_};
 ghost use Rattle.plan.specs.Items.{drafted};
-ghost use Rattle.plan.specs.Names.{cellOf, premiseOf};
-ghost use Rattle.meaning.specs.Making.{makesNumber, makesSum, adds, cellNamed, premiseNamed};
-ghost use Rattle.meaning.specs.Checks.{first, wanted, unwanted};
+ghost use Rattle.meaning.specs.Making.{makesNumber, makesSum, adds};
 ghost use Rattle.sheet.specs.Progress.{progress, Added, Pushed, noted};
 use faults::Found;
 use faults::Problem;
@@ -51,7 +48,10 @@ impl Reading {
     pub(crate) fn push(&mut self, owner: Option<usize>, form: Form) -> Result<(), Stop>
         ensures { λ r. ⌜ Pushed r (adds owner form (drafted (now (self .entry) .draft))) (now (self .entry) .found) (progress (now (self .exit))) ⌝ }
     {
-        if self.draft.constraints.push(Constraint { owner, form }).is_err() {
+        if self.draft
+            .constraints
+            .push(Constraint { owner, form })
+            .is_err() {
             return Err(Stop::Memory);
         }
         Ok(())
@@ -71,7 +71,12 @@ impl Reading {
     }
 
     // A helper cell that holds the sum of two cells.
-    pub(crate) fn add_sum(&mut self, owner: Option<usize>, a: usize, b: usize) -> Result<usize, Stop>
+    pub(crate) fn add_sum(
+        &mut self,
+        owner: Option<usize>,
+        a: usize,
+        b: usize,
+    ) -> Result<usize, Stop>
         ensures { λ r. ⌜ Added r (makesSum owner a b (drafted (now (self .entry) .draft))) (now (self .entry) .found) (progress (now (self .exit))) ⌝ }
     {
         let cell = self.draft.cells.len();

@@ -196,7 +196,12 @@ fn read_both<'a>(heap: Global, chip: &'a [u8], project: &'a [u8]) -> Result<Draf
 
 /// Reads a chip text and a project text into the plan, whatever it held before. On a fault, and for want of memory, the
 /// plan is empty.
-pub fn read<'a>(heap: Global, plan: &mut Plan, chip: &'a [u8], project: &'a [u8]) -> Result<(), ReadError>
+pub fn read<'a>(
+    heap: Global,
+    plan: &mut Plan,
+    chip: &'a [u8],
+    project: &'a [u8],
+) -> Result<(), ReadError>
     ensures tells { λ r. ⌜ Reads r (sheetsRead (now (chip .entry)) (now (project .entry))) (planned (now (plan .exit))) ⌝ }
     ensures same { λ r. ⌜ Solved r (now (chip .entry) ∷ now (project .entry) ∷ []) (treesOf (now (chip .entry)) (now (project .entry))) (planned (now (plan .exit))) ⌝ }
 {

@@ -1,7 +1,4 @@
 // Single words where a form of fixed shape wants them.
-ghost use mathlib.Core.Path.{_≡_};
-ghost use Prim.Native.Nat.{_≤_};
-ghost use lib.ListN.{length};
 ghost use Rattle.sheet.specs.Forms.{NumberTells, NameTells, ToTells, EndTells, HeadTells};
 use crate::heads::Head;
 use crate::reading::Stop;

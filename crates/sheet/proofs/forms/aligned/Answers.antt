@@ -1,5 +1,3 @@
-use mathlib.Core.Path.{_≡_, refl, sym, ap, _∙_}
-use native.Mathlib.Omega.{arith}
 use mathlib.Core.List.{[], _∷_}
 use Rattle.plan.specs.Names.{Texts}
 use Rattle.grammar.specs.Tree.{Name, Number}
@@ -27,9 +25,13 @@ returns-in-Break-end-at c =
     rw (r .1, r .2) (λ o k. align-long (c .in-Continue-k .ensures tt) (c .in-Continue-r .ensures tt) o _ k _ (c .in-Break-end-at .ensures tt))
 
 pub returns-then-k-gt-FINEST : need.returns-then-k-gt-FINEST
-returns-then-k-gt-FINEST c = λ o k.
-    (_, (align-read (c .in-Continue-k .ensures tt) (c .in-Continue-r .ensures tt) o _ k (c .in-Continue-end-at .ensures tt),
-      range-noted _ _ _ _ _ _ _ _ _ _ (c .cell-named-cell .ensures .after) (c .note .ensures) (range-large _ _ (c .if-k-gt-FINEST .taken))))
+returns-then-k-gt-FINEST c = λ o k. (
+  _,
+  (
+    align-read (c .in-Continue-k .ensures tt) (c .in-Continue-r .ensures tt) o _ k (c .in-Continue-end-at .ensures tt),
+    range-noted _ _ _ _ _ _ _ _ _ _ (c .cell-named-cell .ensures .after) (c .note .ensures) (range-large _ _ (c .if-k-gt-FINEST .taken)),
+  ),
+)
 
 pub returns-in-Some : need.returns-in-Some
 returns-in-Some c =
@@ -37,6 +39,10 @@ returns-in-Some c =
     (λ o k. (_, (align-read (c .in-Continue-k .ensures tt) (c .in-Continue-r .ensures tt) o _ k (c .in-Continue-end-at .ensures tt), (align-named (power c) (rest c) (c .in-Some .rest) (c .in-Some .ensures tt) (texts c) (headName c) _ _ (c .cell-named-cell .ensures .after), align-made (power c) (rest c) (c .in-Some .rest) (c .in-Some .ensures tt) (texts c) _ (headName c) (progress (c .args .reading .now)) (c .cell-named-cell .ensures .cell)))))
 
 pub returns-in-None : need.returns-in-None
-returns-in-None c = λ o k.
-    (_, (align-read (c .in-Continue-k .ensures tt) (c .in-Continue-r .ensures tt) o _ k (c .in-Continue-end-at .ensures tt),
-      range-noted _ _ _ _ _ _ _ _ _ _ (c .cell-named-cell .ensures .after) (c .note-in-None .ensures) (range-rest _ _ (c .if-k-gt-FINEST .left) (c .in-None .ensures tt))))
+returns-in-None c = λ o k. (
+  _,
+  (
+    align-read (c .in-Continue-k .ensures tt) (c .in-Continue-r .ensures tt) o _ k (c .in-Continue-end-at .ensures tt),
+    range-noted _ _ _ _ _ _ _ _ _ _ (c .cell-named-cell .ensures .after) (c .note-in-None .ensures) (range-rest _ _ (c .if-k-gt-FINEST .left) (c .in-None .ensures tt)),
+  ),
+)

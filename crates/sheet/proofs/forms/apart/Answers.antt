@@ -1,4 +1,3 @@
-use mathlib.Core.Path.{_≡_, refl, sym, ap, _∙_}
 use mathlib.Core.List.{[], _∷_}
 use Rattle.plan.specs.Names.{Texts}
 use Rattle.grammar.specs.Tree.{Name}
@@ -29,5 +28,10 @@ returns-in-Break-end-at c =
 pub returns : need.returns
 returns c =
     pushed afterApart (c .push .result) _ _ _ _ _ _ _ _ _ (c .push .ensures)
-    (λ o k. (_, (apart-read (c .in-Continue-d .ensures tt) (c .in-Continue-name .ensures tt) o _ k (c .in-Continue-e .ensures tt) (c .in-Continue-end-at .ensures tt),
-      (names-two (texts c) (headName c) (otherName c) _ _ _ (c .cell-named-a .ensures .after) (c .cell-named-b .ensures .after), apart-made (texts c) _ (headName c) (otherName c) _ _ _ _ (c .cell-named-a .ensures .after) (c .cell-named-a .ensures .cell) (c .cell-named-b .ensures .cell)))))
+    (λ o k. (
+      _,
+      (
+        apart-read (c .in-Continue-d .ensures tt) (c .in-Continue-name .ensures tt) o _ k (c .in-Continue-e .ensures tt) (c .in-Continue-end-at .ensures tt),
+        (names-two (texts c) (headName c) (otherName c) _ _ _ (c .cell-named-a .ensures .after) (c .cell-named-b .ensures .after), apart-made (texts c) _ (headName c) (otherName c) _ _ _ _ (c .cell-named-a .ensures .after) (c .cell-named-a .ensures .cell) (c .cell-named-b .ensures .cell)),
+      ),
+    ))

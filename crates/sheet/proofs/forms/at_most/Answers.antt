@@ -1,4 +1,4 @@
-use mathlib.Core.Path.{_≡_, refl, sym, ap, _∙_}
+use mathlib.Core.Path.{sym, _∙_}
 use Rattle.std.proofs.shelf.Results.{err-from-errBy}
 use Rattle.words.specs.declared.Symbol.the-variants.{Plus, AtMost}
 use Rattle.words.specs.Words.{meant}

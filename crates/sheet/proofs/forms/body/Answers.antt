@@ -1,6 +1,3 @@
-use mathlib.Core.Path.{_≡_, refl, sym, ap, _∙_}
-use Rattle.words.specs.Words.{reserved}
-use Rattle.grammar.specs.Tree.{at, nameSpot}
 use Rattle.grammar.specs.Parse.{afterIn, afterAlign, afterApart}
 use Rattle.sheet.proofs.Bounds.{head-step, head-wrong, body-form, body-bound}
 use Rattle.sheet.proofs.forms.body.Needs as need

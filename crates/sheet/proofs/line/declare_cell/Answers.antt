@@ -1,4 +1,4 @@
-use mathlib.Core.Path.{_≡_, refl, ap, _∙_}
+use mathlib.Core.Path.{ap, _∙_}
 use mathlib.Core.List.{[], _∷_, _++_}
 use Prim.Native.Nat.{_+_}
 use Rattle.std.specs.Of.Vec.{vec-items}
@@ -19,4 +19,4 @@ returns c =
     let pushed = chosen _ _ _ _ (c .push .ensures .items) (c .if-is-err .ensures tt .test) in
     let grown = pushed ∙ ap (λ s. vec-items (c .new-name .last .reading .draft .cells) ++ Some (record { text = c .args .text; start = c .args .offset + s; len = c .in-Continue-column .len }) ∷ []) (c .saturating-sub .ensures) in
     λ k. cell-declared (c .in-Continue-column .ensures tt) _ _ _
-      (λ i. record { items = record { cells = grown i; premises = vec-items (c .new-name .last .reading .draft .premises); constraints = vec-items (c .new-name .last .reading .draft .constraints) }; found = c .new-name .last .reading .found }) k
+    (λ i. record { items = record { cells = grown i; premises = vec-items (c .new-name .last .reading .draft .premises); constraints = vec-items (c .new-name .last .reading .draft .constraints) }; found = c .new-name .last .reading .found }) k

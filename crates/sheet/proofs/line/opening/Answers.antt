@@ -1,4 +1,4 @@
-use mathlib.Core.Path.{_≡_, sym, ap, _∙_}
+use mathlib.Core.Path.{sym, ap, _∙_}
 use native.Mathlib.Omega.{arith}
 use Rattle.words.specs.declared.Symbol.the-variants.{Colon}
 use Rattle.words.specs.Words.{meant}
@@ -13,10 +13,10 @@ returns-then-words-eq0 c = from-end (c .args .words .now) 0 (omega arith)
 pub returns-else-words-ge2 : need.returns-else-words-ge2
 returns-else-words-ge2 c =
     elim (c .else-words-ge2 .came) [
-      else-words-ge2·by·then-words-ge2·else-is w ↦
-        plain-name (c .args .words .now) (omega arith) _ (ap meant (c .in-Name .is)) (begins-here Colon (c .args .words .now) 1 (omega arith) ∙ sym (w .if-is .ensures tt))
-    | else-words-ge2·by·else-words-ge2 w ↦
-        plain-name (c .args .words .now) (omega arith) _ (ap meant (c .in-Name .is)) (begins-end Colon (c .args .words .now) 1 (omega arith))
+      | else-words-ge2·by·then-words-ge2·else-is w ↦
+          plain-name (c .args .words .now) (omega arith) _ (ap meant (c .in-Name .is)) (begins-here Colon (c .args .words .now) 1 (omega arith) ∙ sym (w .if-is .ensures tt))
+      | else-words-ge2·by·else-words-ge2 w ↦
+          plain-name (c .args .words .now) (omega arith) _ (ap meant (c .in-Name .is)) (begins-end Colon (c .args .words .now) 1 (omega arith))
     ]
 
 pub returns-in-rest-keyword : need.returns-in-rest-keyword

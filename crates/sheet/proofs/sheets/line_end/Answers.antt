@@ -1,4 +1,3 @@
-use mathlib.Core.Path.{_≡_}
 use Rattle.std.proofs.shelf.Tests.{ne-eqb, eq-eqb}
 use Rattle.sheet.proofs.Ends.{along-none, along-more, ends-newline, ends-text}
 use Rattle.sheet.proofs.sheets.line_end.Needs as need

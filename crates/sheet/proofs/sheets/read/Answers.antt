@@ -18,5 +18,5 @@ returns-in-Ok c =
     record {
       tells = c .in-Ok .ensures tt ∙ ap Ok (sym is);
       same = subst (SameSolutions (chip ∷ project ∷ []) (treesOf chip project)) (sym is)
-        (built-solves (chip ∷ project ∷ []) (treesOf chip project) d (sheets-built chip project d (c .in-Ok .ensures tt)));
+          (built-solves (chip ∷ project ∷ []) (treesOf chip project) d (sheets-built chip project d (c .in-Ok .ensures tt)));
     }

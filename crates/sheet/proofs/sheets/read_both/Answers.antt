@@ -1,6 +1,4 @@
-use mathlib.Core.Path.{_≡_, ap}
 use Rattle.std.proofs.shelf.Results.{err-from-errBy}
-use Rattle.std.specs.declared.result.Result.the-variants.{Ok}
 use Rattle.sheet.specs.Sheets.{tooLong}
 use Rattle.sheet.proofs.Texts.{long-both, chip-long, project-long, chip-stops, project-stops, project-read}
 use Rattle.sheet.proofs.sheets.read_both.Needs as need

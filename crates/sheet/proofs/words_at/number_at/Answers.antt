@@ -1,4 +1,4 @@
-use mathlib.Core.Path.{refl, ap}
+use mathlib.Core.Path.{ap}
 use Rattle.words.specs.Words.{meant}
 use Rattle.grammar.specs.Parse.{rest, numberNext}
 use Rattle.sheet.proofs.Fixed.{rest-at, number-wrong}
