@@ -4,7 +4,7 @@ use crate::exact::ExactKind;
 use crate::kind::Kind;
 use statements::statement::Statement;
 
-// It allows what both parts allow. A part may be a Both itself.
+/// It allows what both parts allow. A part may be a Both itself.
 #[derive(Clone, Copy)]
 pub struct Both<A, B> {
     pub first: A,

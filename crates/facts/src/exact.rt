@@ -4,7 +4,7 @@ ghost use Rattle.statements.specs.declared.statement.Statement.the-variants.{Be
 ghost use Rattle.facts.specs.Laws.{Exact};
 use crate::kind::Kind;
 
-// A kind whose Between allows exactly lo to hi.
+/// A kind whose Between allows exactly lo to hi.
 pub trait ExactKind: Kind {
     // The fact that allows exactly lo to hi, within U.
     fn exactly(lo: i64, hi: i64) -> Self

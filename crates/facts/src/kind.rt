@@ -5,7 +5,7 @@ ghost use Rattle.facts.specs.Model.{Model};
 ghost use Rattle.facts.specs.Laws.{Laws};
 use statements::statement::Statement;
 
-// A kind of fact. A fact means the set of numbers of U that it allows.
+/// A kind of fact. A fact means the set of numbers of U that it allows.
 pub trait Kind: Copy {
     // The meaning of the facts of this kind and of its calls.
     ghost model: { Model Self };

@@ -10,7 +10,7 @@ use statements::numbers::BOTTOM;
 use statements::numbers::TOP;
 use statements::statement::Statement;
 
-// The lowest number that f allows, or M where it allows none.
+/// The lowest number that f allows, or M where it allows none.
 pub fn lowest<K: Kind>(f: K) -> i64
     ensures is { λ r. ⌜ r ≡ low model f ⌝ }
     ensures within { λ r. ⌜ InU r ⌝ }
@@ -21,7 +21,7 @@ pub fn lowest<K: Kind>(f: K) -> i64
     }
 }
 
-// The highest number that f allows, or -M where it allows none.
+/// The highest number that f allows, or -M where it allows none.
 pub fn highest<K: Kind>(f: K) -> i64
     ensures is { λ r. ⌜ r ≡ high model f ⌝ }
     ensures within { λ r. ⌜ InU r ⌝ }
@@ -32,7 +32,7 @@ pub fn highest<K: Kind>(f: K) -> i64
     }
 }
 
-// Does f allow no number?
+/// Does f allow no number?
 pub fn allows_none<K: Kind>(f: K) -> bool
     ensures { λ r. ⌜ r ≡ none model f ⌝ }
 {
@@ -42,7 +42,7 @@ pub fn allows_none<K: Kind>(f: K) -> bool
     }
 }
 
-// f merged with the Between of its lowest and highest.
+/// f merged with the Between of its lowest and highest.
 pub fn tidy<K: Kind>(f: K) -> K
     ensures is { λ r. ⌜ r ≡ tidy model f ⌝ }
     ensures laws { λ _. ⌜ TidyLaws model ⌝ }
@@ -50,14 +50,14 @@ pub fn tidy<K: Kind>(f: K) -> K
     f.merge(K::state(Statement::Between(lowest(f), highest(f))))
 }
 
-// f told g: the two merged, and tidied.
+/// f told g: the two merged, and tidied.
 pub fn told<K: Kind>(f: K, g: K) -> K
     ensures { λ r. ⌜ r ≡ told model g f ⌝ }
 {
     tidy(f.merge(g))
 }
 
-// Tells each fact what s states, and answers how many that changes; their sizes together fall by at least as many.
+/// Tells each fact what s states, and answers how many that changes; their sizes together fall by at least as many.
 pub fn narrow<K: Kind>(facts: &mut [K], s: Statement) -> usize
     ensures facts { λ _. ⌜ now (facts .exit) ≡ map (told model (model .stated s)) (now (facts .entry)) ⌝ }
     ensures count { λ r. ⌜ r ≡ countBy (changes model (model .stated s)) (now (facts .entry)) ⌝ }

@@ -1,4 +1,4 @@
--- Words that lead to a state begin some line. Assumes nothing.
+-- Words that lead to a state begin some line.
 use mathlib.Core.Path.{_≡_, refl, sym, ap, _∙_}
 use mathlib.Core.List.{List, [], _∷_, _++_, append-nil, append-assoc}
 use Rattle.std.specs.declared.option.Option.{Option}

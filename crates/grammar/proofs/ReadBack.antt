@@ -1,4 +1,4 @@
--- The words that spell a tree are read as that tree. Assumes nothing.
+-- The words that spell a tree are read as that tree.
 use mathlib.Core.Path.{_≡_, refl, sym, ap, _∙_}
 use mathlib.Core.Bool.{true, cond}
 use mathlib.Core.List.{List, [], _∷_, _++_, append-nil, append-assoc}

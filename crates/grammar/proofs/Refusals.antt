@@ -1,4 +1,4 @@
--- What a refusal says of the words. Assumes nothing.
+-- What a refusal says of the words.
 use mathlib.Core.Path.{_≡_, refl, sym, ap, subst, _∙_}
 use mathlib.Core.List.{List, [], _∷_, _++_, append-nil, append-assoc}
 use Prim.Native.Nat.{ℕ, _+_, _≤_, max}

@@ -1,4 +1,4 @@
--- The readings of sample lines, which antt computes. Assumes nothing.
+-- The readings of sample lines, which antt computes.
 use mathlib.Core.Path.{refl}
 use Rattle.words.specs.Class.{classOf}
 use Rattle.grammar.specs.Examples.{ReadLines, RefusedLines}

@@ -1,4 +1,4 @@
--- The reading of words is a tree that spells them and nests no deeper than it may. Assumes nothing.
+-- The reading of words is a tree that spells them and nests no deeper than it may.
 use mathlib.Core.Path.{_≡_, refl, sym, ap, subst, _∙_}
 use mathlib.Core.List.{List, [], _∷_, _++_, append-nil, append-assoc}
 use Prim.Native.Nat.{ℕ, _≤_}

@@ -1,4 +1,4 @@
--- What one word does to the reading: the words that led there, and whether the nesting allowed matters. Assumes nothing.
+-- What one word does to the reading: the words that led there, and whether the nesting allowed matters.
 use mathlib.Core.Path.{_≡_, refl, sym, ap, _∙_}
 use mathlib.Core.Bool.{Bool, true, false, cond}
 use mathlib.Core.List.{List, [], _∷_, _++_, append-nil, append-assoc}

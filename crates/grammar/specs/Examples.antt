@@ -1,4 +1,4 @@
--- How some lines are read, at most 16 parentheses deep. Assumes nothing.
+-- How some lines are read, at most 16 parentheses deep.
 use mathlib.Core.Path.{_≡_}
 use mathlib.Core.List.{List}
 use Prim.Native.Nat.{ℕ}

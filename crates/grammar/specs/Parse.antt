@@ -1,4 +1,4 @@
--- The words of a line read from the left: which word may follow, and the tree that they spell. Assumes nothing.
+-- The words of a line read from the left: which word may follow, and the tree that they spell.
 use mathlib.Core.Bool.{cond}
 use mathlib.Core.List.{List, [], _∷_}
 use Prim.Native.Nat.{ℕ}

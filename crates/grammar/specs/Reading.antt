@@ -1,4 +1,4 @@
--- What the reading of a line promises. Assumes nothing.
+-- What the reading of a line promises.
 use mathlib.Core.Path.{_≡_}
 use mathlib.Core.List.{List, [], _∷_, _++_}
 use Prim.Native.Nat.{ℕ, _+_, _≤_}

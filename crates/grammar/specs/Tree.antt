@@ -1,4 +1,4 @@
--- What a line says, as a tree, and the words that spell it. Assumes nothing.
+-- What a line says, as a tree, and the words that spell it.
 use mathlib.Core.List.{List, [], _∷_, _++_}
 use Prim.Native.Nat.{ℕ, _+_, max}
 use Rattle.std.specs.declared.option.Option.{Option}

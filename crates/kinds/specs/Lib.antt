@@ -1,4 +1,5 @@
 -- The definitions that the contracts of the crate cite.
 pub mod Span
 pub mod Align
+pub mod Full
 pub mod Examples

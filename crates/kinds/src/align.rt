@@ -5,7 +5,7 @@ use facts::kind::Kind;
 use statements::residue::Residue;
 use statements::statement::Statement;
 
-// The numbers that leave a rest by a power of two, or no number.
+/// The numbers that leave a rest by a power of two, or no number.
 #[derive(Clone, Copy)]
 pub enum Align {
     At(Residue),

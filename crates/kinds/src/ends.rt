@@ -2,7 +2,7 @@
 ghost use lib.Signed.{_≤ℤ_};
 ghost use Rattle.statements.specs.Numbers.{top, bottom};
 
-// The ends of a run of numbers of U that is not empty.
+/// The ends of a run of numbers of U that is not empty.
 #[derive(Clone, Copy)]
 pub struct Ends {
     pub lo: i64,

@@ -2,7 +2,7 @@
 ghost use Rattle.std.specs.shelf.Lists.{All};
 ghost use Rattle.kinds.specs.Examples.{Holds, examples};
 
-// Each worked example holds of the definitions that the contracts use.
+/// Each worked example holds of the definitions that the contracts use.
 pub fn examples_hold() -> u8
     ensures { λ _. ⌜ All Holds examples ⌝ }
 {

@@ -8,7 +8,7 @@ use statements::numbers::lowered;
 use statements::numbers::raised;
 use statements::statement::Statement;
 
-// The numbers from one end to the other, or no number.
+/// The numbers from one end to the other, or no number.
 #[derive(Clone, Copy)]
 pub enum Span {
     Within(Ends),
@@ -16,7 +16,7 @@ pub enum Span {
 }
 
 impl Span {
-    // The numbers of U from lo to hi.
+    /// The numbers of U from lo to hi.
     pub fn cut(lo: i64, hi: i64) -> Span
         ensures { λ r. ⌜ r ≡ cut lo hi ⌝ }
     {

@@ -13,7 +13,7 @@ use crate::numbers::raised;
 use crate::residue::Residue;
 
 impl Residue {
-    // The residue r by 2^k; absent where k is above 24 or r is not below 2^k.
+    /// The residue r by 2^k; absent where k is above 24 or r is not below 2^k.
     pub fn new(k: u32, r: u32) -> Option<Residue>
         ensures { λ o. ⌜ Made k r o ⌝ }
     {
@@ -32,14 +32,14 @@ impl Residue {
         z.rem_euclid(1 << self.k)
     }
 
-    // Is n a number of U that leaves this rest?
+    /// Is n a number of U that leaves this rest?
     pub fn allows(self, n: i64) -> bool
         ensures { λ b. ⌜ b ≡ aligned self n ⌝ }
     {
         is_number(n) && self.rest(n - i64::from(self.r)) == 0
     }
 
-    // The least number of U from n up that leaves this rest.
+    /// The least number of U from n up that leaves this rest.
     pub fn least_from(self, n: i64) -> Option<i64>
         ensures { λ o. ⌜ LeastFrom (aligned self) n o ⌝ }
     {
@@ -51,7 +51,7 @@ impl Residue {
         if v <= TOP { Some(v) } else { None }
     }
 
-    // The greatest number of U from n down that leaves this rest.
+    /// The greatest number of U from n down that leaves this rest.
     pub fn greatest_to(self, n: i64) -> Option<i64>
         ensures { λ o. ⌜ GreatestTo (aligned self) n o ⌝ }
     {

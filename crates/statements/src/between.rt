@@ -5,14 +5,14 @@ ghost use Rattle.statements.specs.Search.{LeastFrom, GreatestTo};
 use crate::numbers::lowered;
 use crate::numbers::raised;
 
-// Is n one of lo to hi?
+/// Is n one of lo to hi?
 pub fn allows(lo: i64, hi: i64, n: i64) -> bool
     ensures { λ r. ⌜ r ≡ between lo hi n ⌝ }
 {
     raised(lo) <= n && n <= lowered(hi)
 }
 
-// The least of lo to hi from n up.
+/// The least of lo to hi from n up.
 pub fn least_from(lo: i64, hi: i64, n: i64) -> Option<i64>
     ensures { λ r. ⌜ LeastFrom (between lo hi) n r ⌝ }
 {
@@ -20,7 +20,7 @@ pub fn least_from(lo: i64, hi: i64, n: i64) -> Option<i64>
     if v <= lowered(hi) { Some(v) } else { None }
 }
 
-// The greatest of lo to hi from n down.
+/// The greatest of lo to hi from n down.
 pub fn greatest_to(lo: i64, hi: i64, n: i64) -> Option<i64>
     ensures { λ r. ⌜ GreatestTo (between lo hi) n r ⌝ }
 {

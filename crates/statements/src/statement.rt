@@ -8,7 +8,7 @@ use crate::numbers::BOTTOM;
 use crate::numbers::TOP;
 use crate::residue::Residue;
 
-// What can be said of a number of U.
+/// What can be said of a number of U.
 #[derive(Clone, Copy)]
 pub enum Statement {
     Between(i64, i64),
@@ -16,7 +16,7 @@ pub enum Statement {
 }
 
 impl Statement {
-    // Does it allow n?
+    /// Does it allow n?
     pub fn allows(self, n: i64) -> bool
         ensures { λ r. ⌜ r ≡ allowed self n ⌝ }
     {
@@ -26,7 +26,7 @@ impl Statement {
         }
     }
 
-    // The least number that it allows from n up, absent where there is none.
+    /// The least number that it allows from n up, absent where there is none.
     pub fn least_from(self, n: i64) -> Option<i64>
         ensures { λ r. ⌜ LeastFrom (allowed self) n r ⌝ }
     {
@@ -36,7 +36,7 @@ impl Statement {
         }
     }
 
-    // The greatest number that it allows from n down, absent where there is none.
+    /// The greatest number that it allows from n down, absent where there is none.
     pub fn greatest_to(self, n: i64) -> Option<i64>
         ensures { λ r. ⌜ GreatestTo (allowed self) n r ⌝ }
     {
@@ -46,7 +46,7 @@ impl Statement {
         }
     }
 
-    // The lowest number that it allows, or M where it allows none.
+    /// The lowest number that it allows, or M where it allows none.
     pub fn lowest(self) -> i64
         ensures is { λ r. ⌜ r ≡ lowest (allowed self) ⌝ }
         ensures within { λ r. ⌜ InU r ⌝ }
@@ -57,7 +57,7 @@ impl Statement {
         }
     }
 
-    // The highest number that it allows, or -M where it allows none.
+    /// The highest number that it allows, or -M where it allows none.
     pub fn highest(self) -> i64
         ensures is { λ r. ⌜ r ≡ highest (allowed self) ⌝ }
         ensures within { λ r. ⌜ InU r ⌝ }

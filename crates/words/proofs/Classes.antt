@@ -1,4 +1,4 @@
--- Classes of bytes. Assumes nothing.
+-- Classes of bytes.
 use mathlib.Core.Path.{_≡_, refl, sym, subst}
 use mathlib.Core.Bool.{Bool, true, false, cond, _||_}
 use Prim.Native.Nat.{ℕ, _≤_}

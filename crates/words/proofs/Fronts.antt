@@ -1,4 +1,4 @@
--- Longest fronts, and decimal numbers read from the left. Assumes nothing.
+-- Longest fronts, and decimal numbers read from the left.
 use mathlib.Core.Path.{_≡_, refl, ap}
 use mathlib.Core.Bool.{Bool, true, false, cond}
 use mathlib.Core.List.{List, [], _∷_, _++_}

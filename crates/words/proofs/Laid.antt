@@ -1,4 +1,4 @@
--- A line has the words that it is laid out as, or the fault that stands after them. Assumes nothing.
+-- A line has the words that it is laid out as, or the fault that stands after them.
 use mathlib.Core.Path.{_≡_, refl, sym, ap, subst, _∙_}
 use mathlib.Core.Bool.{true}
 use mathlib.Core.List.{List, [], _∷_, _++_}

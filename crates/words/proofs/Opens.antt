@@ -1,4 +1,4 @@
--- What the beginning of some bytes says of them. Assumes nothing.
+-- What the beginning of some bytes says of them.
 use mathlib.Core.Path.{_≡_, refl, sym, ap, subst, _∙_}
 use mathlib.Core.Bool.{Bool, true, false, cond}
 use mathlib.Core.List.{List, [], _∷_, _++_}

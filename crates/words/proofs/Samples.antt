@@ -1,4 +1,4 @@
--- The words of sample lines, which antt computes. Assumes nothing.
+-- The words of sample lines, which antt computes.
 use mathlib.Core.Path.{refl}
 use Rattle.words.specs.Class.{classOf}
 use Rattle.words.specs.Examples.{ReadLines, FaultyLines}

@@ -1,4 +1,4 @@
--- What one turn of the reader does to the words that are read. Assumes nothing.
+-- What one turn of the reader does to the words that are read.
 use mathlib.Core.Path.{_≡_, refl, sym, ap, subst, _∙_}
 use mathlib.Core.Bool.{Bool, true, false, cond}
 use mathlib.Core.List.{List, [], _∷_, _++_, map}

@@ -1,4 +1,4 @@
--- Each word stands in its line, after the word before it. Assumes nothing.
+-- Each word stands in its line, after the word before it.
 use mathlib.Core.Path.{_≡_, refl, ap, subst, _∙_}
 use mathlib.Core.Bool.{Bool, true, false, cond}
 use mathlib.Core.List.{List, [], _∷_}

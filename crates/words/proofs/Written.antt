@@ -1,4 +1,4 @@
--- What is written is read: a word, a gap or a fault at the front of some bytes. Assumes nothing.
+-- What is written is read: a word, a gap or a fault at the front of some bytes.
 use mathlib.Core.Path.{_≡_, refl, sym, ap, subst, _∙_}
 use mathlib.Core.Bool.{true, false, cond}
 use mathlib.Core.List.{List, [], _∷_, _++_}

@@ -1,5 +1,5 @@
 -- The class of a byte.
--- Assumes nothing.
+--.
 use Prim.Native.Nat.{ℕ}
 use mathlib.Core.Bool.{Bool, false, cond, _&&_, _||_}
 use mathlib.Core.List.{List, [], _∷_}

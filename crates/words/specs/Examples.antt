@@ -1,4 +1,4 @@
--- The words of some lines, and the faults of others. Assumes nothing.
+-- The words of some lines, and the faults of others.
 use mathlib.Core.Path.{_≡_}
 use mathlib.Core.List.{List, [], _∷_}
 use Prim.Native.Nat.{ℕ}

@@ -1,4 +1,4 @@
--- The reserved words. Assumes nothing.
+-- The reserved words.
 use mathlib.Core.Bool.{cond}
 use mathlib.Core.List.{List}
 use Prim.Native.Nat.{ℕ}

@@ -1,4 +1,4 @@
--- Which lines have which words: how words are written, what stands between them, and what is no word. Assumes nothing.
+-- Which lines have which words: how words are written, what stands between them, and what is no word.
 use mathlib.Core.Path.{_≡_}
 use mathlib.Core.Bool.{Bool, true, false}
 use mathlib.Core.List.{List, [], _∷_, _++_}

@@ -1,4 +1,4 @@
--- Words stand in the line that they are the words of. Assumes nothing.
+-- Words stand in the line that they are the words of.
 use mathlib.Core.Path.{_≡_}
 use mathlib.Core.List.{List, [], _∷_}
 use Prim.Native.Nat.{ℕ, _-_, _<_, _≤_}

@@ -1,4 +1,4 @@
--- The words of a line, or the first fault that keeps it from having any. Assumes nothing.
+-- The words of a line, or the first fault that keeps it from having any.
 use mathlib.Core.Path.{_≡_}
 use mathlib.Core.Bool.{Bool, cond}
 use mathlib.Core.List.{List, [], _∷_, map}

@@ -1,4 +1,4 @@
-//! The class of a byte, by a table.
+// The class of a byte, by a table.
 
 ghost use mathlib.Core.Path.{_≡_};
 ghost use Rattle.words.specs.Class.{classOf};

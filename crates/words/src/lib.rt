@@ -1,4 +1,4 @@
-//! The words of a line of a sheet, each with its column, or the first fault of its bytes.
+// The words of a line of a sheet, each with its column, or the first fault of its bytes.
 
 ghost use mathlib.Core.Path.{_≡_};
 ghost use mathlib.Core.Bool.{true, false};

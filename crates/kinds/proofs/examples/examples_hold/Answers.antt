@@ -15,7 +15,8 @@ use Rattle.facts.specs.Derived.{low, high}
 use Rattle.facts.proofs.BothLaws.{both-laws}
 use Rattle.kinds.specs.Align.{align-model}
 use Rattle.kinds.specs.Span.{cut-by, span-meet, span-model}
-use Rattle.kinds.specs.Examples.{full-model, residue, fours}
+use Rattle.kinds.specs.Full.{full-model}
+use Rattle.kinds.specs.Examples.{residue, fours}
 use Rattle.kinds.proofs.AlignLaws.{align-laws}
 use Rattle.kinds.proofs.SpanLaws.{span-laws, span-exact, span-stated-between}
 use Rattle.kinds.proofs.examples.examples_hold.Needs as need
@@ -37,7 +38,7 @@ eight (negsuc n) p q e = absurd (p .le)
 only-eight : (n : ℤ) → allows n ≡ true → n ≡ pos 8
 only-eight n e =
     let i = inside-of (pos 5) (pos 9) n (sym (span-exact (pos 5) (pos 9) n) ∙ and-left (span-model .allows (fours .first) n) (align-model .allows (fours .second) n) e) in
-    eight n (i .0) (i .1) (aligned-rest (residue 2 0 (omega arith) (omega arith)) n (and-right (span-model .allows (fours .first) n) (align-model .allows (fours .second) n) e))
+    eight n (i .0) (i .1) (aligned-rest (residue 2 0 tt tt) n (and-right (span-model .allows (fours .first) n) (align-model .allows (fours .second) n) e))
 
 fours-low : low full-model fours ≡ pos 8
 unfolding low

@@ -1,4 +1,4 @@
--- The table's rule is one test of all its 256 entries, which antt computes. Assumes nothing.
+-- The table's rule is one test of all its 256 entries, which antt computes.
 use mathlib.Core.List.{List, [], _∷_}
 use Prim.Native.Nat.{ℕ, _<_}
 use native.Mathlib.Omega.{arith}
