@@ -91,12 +91,9 @@ impl Draft {
     pub fn is_fit(&self) -> bool
         ensures { λ r. ⌜ r ≡ fits (drafted (now (self .entry))) ⌝ }
     {
-        self.is_few()
-            & are_known(
-                self.constraints.as_slice(),
-                self.cells.len(),
-                self.premises.len(),
-            )
+        let cells = self.cells.len();
+        let premises = self.premises.len();
+        self.is_few() & are_known(self.constraints.as_slice(), cells, premises)
     }
 }
 
