@@ -1,0 +1,14 @@
+pub mod Numbered
+pub mod Calms
+pub mod Fits
+pub mod Counts
+pub mod Live
+pub mod Runs
+pub mod Trails
+pub mod Telling
+pub mod Jumps
+pub mod Searches
+pub mod Keeping
+pub mod Boards
+pub mod Histories
+pub mod Exclusions

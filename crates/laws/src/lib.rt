@@ -1,0 +1,3 @@
+// The promises over every history of calls, for every lawful kind of fact and every lawful agenda.
+pub mod excluded;
+pub mod promises;

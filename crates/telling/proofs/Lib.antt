@@ -1,0 +1,11 @@
+pub mod Cases
+pub mod Tells
+pub mod Fires
+pub mod Cover
+pub mod StableCover
+pub mod PlacementCover
+pub mod Settles
+pub mod Sizes
+pub mod Changes
+pub mod Fits
+pub mod Locals

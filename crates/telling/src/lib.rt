@@ -1,0 +1,2 @@
+// What firing promises in every lawful kind: a function for each theorem.
+pub mod promises;
