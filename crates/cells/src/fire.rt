@@ -5,7 +5,7 @@ ghost use Prim.Native.Nat.{_<_};
 ghost use lib.ListN.{length};
 ghost use Rattle.facts.specs.Derived.{dead};
 ghost use Rattle.plan.specs.Forms.{named};
-ghost use Rattle.plan.specs.Known.{allBelow, ownerKnown, ranged, known};
+ghost use Rattle.plan.specs.Known.{known};
 ghost use Rattle.plan.specs.Placements.{ownedBy};
 ghost use Rattle.forms.specs.Tells.{tells};
 ghost use Rattle.telling.specs.Tables.{facts, changed};
@@ -24,49 +24,17 @@ use forms::tells::named_at;
 use forms::tells::tell_at;
 use plan::constraint::Constraint;
 use plan::constraint::Form;
+use plan::plans::is_known;
 use statements::numbers::BOTTOM;
 use statements::numbers::TOP;
-use statements::numbers::is_number;
 use statements::statement::Statement;
-
-// Whether each cell that the form names is one of the first n.
-fn is_inside(form: Form, n: usize) -> bool
-    ensures { λ r. ⌜ r ≡ allBelow n (named form) ⌝ }
-{
-    match form {
-        Form::State(c, _) => c < n,
-        Form::Sum(a, b, c) => (a < n) & ((b < n) & (c < n)),
-        Form::Gap(a, _, b) => (a < n) & (b < n),
-        Form::Apart(a, _, b, _) => (a < n) & (b < n),
-    }
-}
-
-// Whether the form's distances are in their ranges.
-fn is_ranged(form: Form) -> bool
-    ensures { λ r. ⌜ r ≡ ranged form ⌝ }
-{
-    match form {
-        Form::Gap(_, d, _) => is_number(d),
-        _ => true,
-    }
-}
-
-// Whether the owner, if there is one, is below 32.
-fn is_owner_small(owner: Option<usize>) -> bool
-    ensures { λ r. ⌜ r ≡ ownerKnown 32 owner ⌝ }
-{
-    match owner {
-        None => true,
-        Some(p) => p < 32,
-    }
-}
 
 /// Whether a constraint can be fired over n cells: it names only these, its owner is below 32, and its distances are in
 /// their ranges. Every constraint of a plan with n cells can be.
 pub fn can_fire(k: Constraint, n: usize) -> bool
     ensures { λ r. ⌜ r ≡ known n 32 k ⌝ }
 {
-    is_inside(k.form, n) & (is_owner_small(k.owner) & is_ranged(k.form))
+    is_known(k, n, 32)
 }
 
 // Whether a cell that the form names is in conflict.

@@ -50,7 +50,9 @@ fn is_owner_known(owner: Option<usize>, premises: usize) -> bool
     }
 }
 
-fn is_known(k: Constraint, cells: usize, premises: usize) -> bool
+/// Whether a constraint names only the first `cells` cells and the first `premises` premises, with its numbers in their
+/// ranges.
+pub fn is_known(k: Constraint, cells: usize, premises: usize) -> bool
     ensures { λ r. ⌜ r ≡ known cells premises k ⌝ }
 {
     is_named_below(k.form, cells) & (is_owner_known(k.owner, premises) & is_ranged(k.form))
