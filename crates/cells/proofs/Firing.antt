@@ -1,12 +1,11 @@
 -- A firing gone through tell by tell.
-use mathlib.Core.Path.{_≡_, refl, sym, ap, ap₂, subst, _∙_}
+use mathlib.Core.Path.{_≡_, refl, sym, ap, _∙_}
 use mathlib.Core.Bool.{Bool, true, false, cond}
 use mathlib.Core.List.{List, [], _∷_, _++_}
-use Prim.Native.Nat.{ℕ, zero, suc, _+_, _<_, _≤_}
+use Prim.Native.Nat.{ℕ, _+_, _≤_}
 use native.Mathlib.Omega.{arith}
 use lib.ListN.{length, drop}
 use Rattle.std.specs.Finite.{nth}
-use Rattle.std.specs.declared.option.Option.{Option}
 use Rattle.std.specs.declared.option.Option.the-variants.{Some, None}
 use Rattle.std.proofs.shelf.Tests.{cond-true, cond-false}
 use Rattle.facts.specs.Model.{Model}
@@ -24,7 +23,7 @@ use Rattle.sets.specs.Members.{among}
 use Rattle.telling.specs.Reasons.{Reasons, together, premisesOnly}
 use Rattle.telling.specs.Tables.{Table, facts, reasonsOf, any, changed}
 use Rattle.telling.specs.Telling.{afterTold, afterTell}
-use Rattle.telling.specs.Firing.{afterTells, afterDead, afterDeads, inConflict, fired, ifChanged, tellsChange, deadsChange, firedChange}
+use Rattle.telling.specs.Firing.{afterTells, afterDead, afterDeads, inConflict, fired, tellsChange, deadsChange, firedChange}
 use Rattle.telling.proofs.Changes.{tracked-fired}
 use Rattle.cells.specs.declared.cell.Cell.{Cell}
 use Rattle.cells.specs.declared.changed.Changed.{Changed}

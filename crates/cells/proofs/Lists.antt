@@ -1,12 +1,11 @@
 -- A list gone through by its places, and the first of a list.
-use mathlib.Core.Path.{_≡_, refl, sym, ap, subst, _∙_}
+use mathlib.Core.Path.{_≡_, refl, ap, subst}
 use mathlib.Core.List.{List, [], _∷_}
 use Prim.Native.Nat.{ℕ, zero, suc, _+_, _<_, _≤_}
 use native.Mathlib.Omega.{arith}
 use native.Mathlib.Numerals.{add-one}
 use lib.ListN.{length, getD, take, drop}
 use Rattle.std.specs.Finite.{nth}
-use Rattle.std.specs.declared.option.Option.{Option}
 use Rattle.std.specs.declared.option.Option.the-variants.{Some, None}
 use Rattle.std.specs.shelf.Lists.{All}
 
@@ -49,8 +48,3 @@ nth-past-take zero xs i h = refl
 nth-past-take (suc n) [] i h = refl
 nth-past-take (suc n) (x ∷ xs) zero h = absurd (omega arith)
 nth-past-take (suc n) (x ∷ xs) (suc i) h = nth-past-take n xs i (omega arith)
-
-pub length-take-le : {A : Type 0} (n : ℕ) (xs : List A) → length (take n xs) ≤ n
-length-take-le zero xs = omega arith
-length-take-le (suc n) [] = omega arith
-length-take-le (suc n) (x ∷ xs) = let h = length-take-le n xs in omega arith

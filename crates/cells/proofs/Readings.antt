@@ -1,18 +1,16 @@
 -- What a tell says and asks, and its reasons, from what was read.
 use mathlib.Core.Path.{_≡_, sym, ap, ap₂, _∙_}
-use mathlib.Core.Bool.{Bool}
 use mathlib.Core.List.{List, [], _∷_, _++_}
 use Prim.Native.Nat.{ℕ}
 use lib.IntN.{ℤ, _+ℤ_, _-ℤ_}
 use lib.Signed.{ltZ}
-use Rattle.statements.specs.Numbers.{top, bottom}
-use Rattle.statements.specs.declared.statement.Statement.{Statement}
+use Rattle.statements.specs.Numbers.{top}
 use Rattle.statements.specs.declared.statement.Statement.the-variants.{Between}
-use Rattle.forms.specs.Tells.{conditionReads, sayingReads, reads, up, down, holds, said}
+use Rattle.forms.specs.Tells.{conditionReads, sayingReads, reads, holds, said}
 use Rattle.forms.specs.declared.tell.Condition.{Condition}
 use Rattle.forms.specs.declared.tell.Condition.the-variants.{Above}
 use Rattle.forms.specs.declared.tell.Saying.{Saying}
-use Rattle.forms.specs.declared.tell.Saying.the-variants.{Cut, Plus, Minus, From, UpTo}
+use Rattle.forms.specs.declared.tell.Saying.the-variants.{Plus, Minus, From}
 use Rattle.forms.specs.declared.tell.Tell.{Tell}
 use Rattle.telling.specs.Reasons.{Reasons, noReasons, together}
 use Rattle.telling.specs.Tables.{Table, reasonsOf}
@@ -20,9 +18,6 @@ use Rattle.telling.specs.Tables.{Table, reasonsOf}
 module _ (lo hi : ℕ → ℤ) where
   ends : {a b p q : ℤ} → a ≡ p → b ≡ q → Between a b ≡ Between p q
   ends e f = ap₂ Between e f
-
-  pub said-cut : (s : Saying) (x : ℕ) (w : Statement) {a b p q : ℤ} → s ≡ Cut x w → p ≡ lo x → q ≡ hi x → a ≡ up w p → b ≡ down w q → Between a b ≡ said lo hi s
-  said-cut s x w i d e f g = ends (f ∙ ap (up w) d) (g ∙ ap (down w) e) ∙ sym (ap (said lo hi) i)
 
   pub said-plus : (s : Saying) (x y : ℕ) {a b : ℤ} → s ≡ Plus x y → a ≡ (lo x +ℤ lo y) → b ≡ (hi x +ℤ hi y) → Between a b ≡ said lo hi s
   said-plus s x y i e f = ends e f ∙ sym (ap (said lo hi) i)
@@ -32,9 +27,6 @@ module _ (lo hi : ℕ → ℤ) where
 
   pub said-from : (s : Saying) (x : ℕ) (d : ℤ) {a b : ℤ} → s ≡ From x d → a ≡ (lo x +ℤ d) → b ≡ top → Between a b ≡ said lo hi s
   said-from s x d i e f = ends e f ∙ sym (ap (said lo hi) i)
-
-  pub said-upto : (s : Saying) (x : ℕ) (d : ℤ) {a b : ℤ} → s ≡ UpTo x d → a ≡ bottom → b ≡ (hi x -ℤ d) → Between a b ≡ said lo hi s
-  said-upto s x d i e f = ends e f ∙ sym (ap (said lo hi) i)
 
   pub holds-above : (c : Condition) (a : ℕ) (d : ℤ) (b : ℕ) {p q : ℤ} → c ≡ Above a d b → p ≡ hi b → q ≡ (lo a +ℤ d) → ltZ p q ≡ holds lo hi c
   holds-above c a d b i e f = ap₂ ltZ e f ∙ sym (ap (holds lo hi) i)

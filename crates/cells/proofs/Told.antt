@@ -1,15 +1,14 @@
 -- The three cases of a cell that is told, and one cell of a table told.
-use mathlib.Core.Path.{_≡_, refl, sym, ap, subst, _∙_, fun-ext}
+use mathlib.Core.Path.{_≡_, refl, sym, ap, _∙_, fun-ext}
 use mathlib.Core.Bool.{Bool, true, false, cond, not}
 use mathlib.Core.List.{List}
-use Prim.Native.Nat.{ℕ, _<_, _≤_}
+use Prim.Native.Nat.{ℕ, _<_}
 use lib.Dec.{ltb}
 use lib.ListN.{length, set}
-use Rattle.std.proofs.shelf.Tests.{cond-true, cond-false, lt-ltb, le-ltb}
+use Rattle.std.proofs.shelf.Tests.{cond-true, cond-false, lt-ltb}
 use Rattle.std.specs.declared.option.Option.{Option}
-use Rattle.std.specs.declared.option.Option.the-variants.{Some, None}
+use Rattle.std.specs.declared.option.Option.the-variants.{None}
 use Rattle.facts.specs.Model.{Model}
-use Rattle.facts.specs.Laws.{Laws}
 use Rattle.facts.specs.Derived.{tidy, told}
 use Rattle.plan.specs.Placements.{Premises, ownedBy}
 use Rattle.forms.specs.Tells.{reads}
@@ -20,11 +19,10 @@ use Rattle.telling.specs.Tables as tables
 use Rattle.telling.specs.Tables.{Table, upd, facts, reasonsOf, changed}
 use Rattle.telling.specs.Telling.{isMade, saidFact, toldCell, afterTold, afterTell}
 use Rattle.telling.proofs.Cases.{upd-here}
-use Rattle.telling.proofs.Changes.{changed-self}
 use Rattle.cells.specs.declared.cell.Cell.{Cell}
 use Rattle.cells.specs.declared.reasons.Reasons.{Reasons}
 use Rattle.cells.specs.Meaning.{tagsOf, cellOf, tableOf}
-use Rattle.cells.proofs.Tables.{table-set, read-cell}
+use Rattle.cells.proofs.Tables.{table-set}
 
 -- Reasons that are no premise are those of a constraint without an owner.
 pub owned-none : (o : Option ℕ) {r : theory.Reasons} → o ≡ None → r ≡ noReasons → r ≡ premisesOnly (ownedBy o)
@@ -66,9 +64,6 @@ module _ {F : Type 0} (m : Model F) (xs : List (Cell F)) (x : ℕ) (g : F) (s : 
   pub tell-there : (old new : Cell F) → x < length xs → cellOf old ≡ tableOf m xs x → cellOf new ≡ toldCell m g (tagsOf s) (cellOf old) →
       tableOf m (set xs x new) ≡ cond (ltb x (length xs)) (afterTold m x g (tagsOf s) (tableOf m xs)) (tableOf m xs)
   tell-there old new lt was is = table-told old new lt was is ∙ sym (cond-true (ltb x (length xs)) (afterTold m x g (tagsOf s) (tableOf m xs)) (tableOf m xs) (lt-ltb x (length xs) lt))
-
-  pub tell-absent : length xs ≤ x → tableOf m xs ≡ cond (ltb x (length xs)) (afterTold m x g (tagsOf s) (tableOf m xs)) (tableOf m xs)
-  tell-absent ge = sym (cond-false (ltb x (length xs)) (afterTold m x g (tagsOf s) (tableOf m xs)) (tableOf m xs) (le-ltb x (length xs) ge))
 
   pub tell-changed : (old new : Cell F) → x < length xs → cellOf old ≡ tableOf m xs x → not (m .equal (old .fact) (new .fact)) ≡ changed m (tableOf m xs) (tableOf m (set xs x new)) x
   tell-changed old new lt was =

@@ -1,9 +1,8 @@
 // Firing a constraint over a lent table.
 ghost use mathlib.Core.Path.{_≡_};
-ghost use mathlib.Core.Bool.{true, cond};
+ghost use mathlib.Core.Bool.{true};
 ghost use Prim.Native.Nat.{_<_};
 ghost use lib.ListN.{length};
-ghost use Rattle.facts.specs.Derived.{dead};
 ghost use Rattle.plan.specs.Forms.{named};
 ghost use Rattle.plan.specs.Known.{known};
 ghost use Rattle.plan.specs.Placements.{ownedBy};

@@ -5,7 +5,7 @@ ghost use lib.ListN.{length};
 ghost use Rattle.statements.specs.Numbers.{InU};
 ghost use Rattle.facts.specs.Derived.{low, high, none};
 ghost use Rattle.plan.specs.Forms.{named};
-ghost use Rattle.forms.specs.Tells.{conditionReads, sayingReads, reads, holds as holdsBy, said as saidBy, up, down};
+ghost use Rattle.forms.specs.Tells.{sayingReads, reads, holds as holdsBy, said as saidBy, up, down};
 ghost use Rattle.telling.specs.Reasons.{together};
 ghost use Rattle.telling.specs.Tables.{facts, reasonsOf};
 ghost use Rattle.telling.specs.Telling.{lows, highs};

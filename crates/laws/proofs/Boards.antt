@@ -1,4 +1,4 @@
--- Clear, bring and lift keep what holds of a cleared board. Assumes nothing.
+-- Clear, bring and lift keep what holds of a cleared board.
 use mathlib.Core.Path.{_≡_, refl, sym, ap, subst, _∙_}
 use mathlib.Core.Bool.{Bool, true, false, cond, _||_}
 use mathlib.Core.List.{List, [], _∷_}
@@ -20,6 +20,7 @@ use Rattle.sets.specs.Members.{Members}
 use Rattle.telling.specs.Reasons.{Tag, premise, guess, Reasons, Among, premisesOnly}
 use Rattle.telling.specs.Tables.{Cell, Table, upd, startCell}
 use Rattle.telling.proofs.Cases.{upd-cases}
+use Rattle.telling.proofs.Fits.{start-fits}
 use Rattle.calls.specs.Networks.{Net, Planned, inForce}
 use Rattle.calls.specs.Boards.{Board, woken, reset}
 use Rattle.calls.specs.Trails.{Trail}
@@ -27,8 +28,7 @@ use Rattle.calls.specs.Calls.{standing, belongs, clearBoard, bringBoard, restin
 use Rattle.laws.proofs.Numbered.{none-some, nth-below, inForce-holds, inForce-made}
 use Rattle.laws.proofs.Calms.{Calmed, woken-calmed}
 use Rattle.laws.proofs.Counts.{woken-bounded}
-use Rattle.laws.proofs.Fits.{startCell-fit}
-use Rattle.laws.proofs.Live.{AtHand, Tabled, Live}
+use Rattle.laws.proofs.Live.{atHand, Tabled, Live}
 use Rattle.laws.proofs.Jumps.{reset-same, reset-fits, reset-lies}
 
 standing-below : (force : Premises) (ks : List Constraint) (j : ℕ) (o : Option Constraint) → nth ks j ≡ o → standing force o ≡ true → j < length ks
@@ -45,7 +45,7 @@ module _ {F : Type 0} (m : Model F) (l : Laws m) (N : Net) (ok : Planned N) (Sor
   pub clear-live : (force : Premises) → Live m l N Sort placed force [] (clearBoard m N force)
   unfolding clearBoard
   clear-live force = record {
-    fits = λ x. startCell-fit m l (AtHand force []);
+    fits = λ x. start-fits m l (atHand force []);
     bounded = λ j e. standing-below force (N .constraints) j (nth (N .constraints) j) refl e;
     calmed = λ j k at inf e. test-clash (ap (standing force) at ∙ inf) e;
     lying = λ v P r met x h. start-allows m l (v x) (placed v P x);
@@ -65,7 +65,7 @@ module _ {F : Type 0} (m : Model F) (l : Laws m) (N : Net) (ok : Planned N) (Sor
       (λ pq e. test-clash (subst (λ z. ownedBy (k .owner) z ≡ true) (sym pq) o) free) (λ e. e)
       (inForce-holds N ok (upd force p true) j k at h q o))
 
-  bring-scope : (force : Premises) (p : ℕ) (t : Trail) (g : Tag) → AtHand force t g → AtHand (upd force p true) t g
+  bring-scope : (force : Premises) (p : ℕ) (t : Trail) → Among (atHand force t) (atHand (upd force p true) t)
   bring-scope force p t (premise q) h = upd-cases (λ z. z ≡ true) force p true q (λ e. refl) h
   bring-scope force p t (guess g) h = h
 
@@ -91,7 +91,7 @@ module _ {F : Type 0} (m : Model F) (l : Laws m) (N : Net) (ok : Planned N) (Sor
       inForce-made force k
       (λ q o. upd-cases (λ z. z ≡ true → force q ≡ true) force p false q (λ pq e. test-clash e refl) (λ e. e) (inForce-holds N ok (upd force p false) j k at h q o))
 
-  lift-scope : (force : Premises) (p : ℕ) (c : Cell F) → ((g : Tag) → c .reasons g ≡ true → AtHand force [] g) → c .reasons (premise p) ≡ false → (g : Tag) → c .reasons g ≡ true → AtHand (upd force p false) [] g
+  lift-scope : (force : Premises) (p : ℕ) (c : Cell F) → Among (c .reasons) (atHand force []) → c .reasons (premise p) ≡ false → Among (c .reasons) (atHand (upd force p false) [])
   lift-scope force p c h free (premise q) k =
       upd-cases (λ z. z ≡ true) force p false q (λ e. test-clash k (subst (λ z. c .reasons (premise z) ≡ false) e free)) (h (premise q) k)
   lift-scope force p c h free (guess g) k = h (guess g) k
@@ -103,7 +103,7 @@ module _ {F : Type 0} (m : Model F) (l : Laws m) (N : Net) (ok : Planned N) (Sor
       let back = resting m N p T in
       let after = upd force p false in
       record {
-        fits = reset-fits m l N (AtHand force []) (AtHand after []) back T (h .fits) (λ x e. lift-scope force p (T x) (h .fits x .scope) e);
+        fits = reset-fits m l N (atHand force []) (atHand after []) back T (h .fits) (λ x e. lift-scope force p (T x) (h .fits x .scope) e);
         bounded = woken-bounded N after back (b .waits) (h .bounded);
         calmed =
             woken-calmed m l N after back (b .waits) T (reset m back T) (reset-same m l N back T)

@@ -1,4 +1,4 @@
--- Each step makes the number waiting, plus the number of constraints times the table's size, smaller. Assumes nothing.
+-- Each step makes the number waiting, plus the number of constraints times the table's size, smaller.
 use mathlib.Core.Path.{_≡_, refl, sym, ap, subst, _∙_}
 use mathlib.Core.Bool.{Bool, true, false, cond, not, _&&_, _||_}
 use mathlib.Core.List.{List, [], _∷_}

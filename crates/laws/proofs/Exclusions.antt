@@ -1,6 +1,6 @@
--- What no network does. Assumes nothing.
+-- What no network does.
 use mathlib.Core.Path.{_≡_, refl, sym, ap, subst, _∙_}
-use mathlib.Core.Bool.{Bool, true, false, cond}
+use mathlib.Core.Bool.{Bool, true, false, cond, not}
 use mathlib.Core.List.{List, [], _∷_}
 use mathlib.Core.Logic.{⊎-elim}
 use Prim.Native.Nat.{ℕ, zero, suc, _+_, _<_, _≤_}
@@ -16,9 +16,10 @@ use Rattle.facts.specs.Model.{Model}
 use Rattle.facts.specs.Laws.{Laws}
 use Rattle.plan.specs.Placements.{Placement, Placed, Premises, ownedBy, Meets}
 use Rattle.plan.specs.declared.constraint.Constraint.{Constraint}
-use Rattle.telling.specs.Reasons.{Tag, premise, guess, Reasons, premisesOnly}
+use Rattle.telling.specs.Reasons.{Tag, premise, guess, Reasons, Among, premisesOnly}
 use Rattle.telling.specs.Tables.{Table, facts, upd}
 use Rattle.telling.specs.Firing.{fired}
+use Rattle.telling.proofs.Fits.{Fits, fired-fits}
 use Rattle.calls.specs.Networks.{Net, Planned, within, inForce, NoneMeets}
 use Rattle.calls.specs.Boards.{Board}
 use Rattle.calls.specs.Running.{Outcome, quiet, conflict, spent, afterTaken, afterStep, Run, clashes, rests, tires, steps}
@@ -31,19 +32,18 @@ use Rattle.calls.specs.Histories.{Event, History}
 use Rattle.laws.specs.Promises.{Always, OnRun, OnConflict, OnSeek, OnNone, OverHistories, Contradicted, ConflictsRight}
 use Rattle.laws.specs.Excluded.{OwnReasonsOnly, WithinBudget, OnlyInVain, KeptWithin, OnlyKept}
 use Rattle.laws.proofs.Numbered.{none-some, meets-fewer}
-use Rattle.laws.proofs.Fits.{Fits, fired-fit}
 use Rattle.laws.proofs.Histories.{promises}
 
 -- ---- reasons
 
--- The reason is not premise p.
-abbrev Other : ℕ → Tag → Type 0
-Other p (premise q) = eqb p q ≡ false
-Other p (guess g) = Unit {0}
+-- Every reason but premise p.
+abbrev others : ℕ → Reasons
+others p (premise q) = not (eqb p q)
+others p (guess g) = true
 
-other-scoped : (p : ℕ) (r : Reasons) → r (premise p) ≡ false → (t : Tag) → r t ≡ true → Other p t
-other-scoped p r free (premise q) e = test-no (eqb p q) (λ same. test-clash e (subst (λ z. r (premise z) ≡ false) (eqb-true p q same) free))
-other-scoped p r free (guess g) e = tt
+others-hold : (p : ℕ) (r : Reasons) → r (premise p) ≡ false → Among r (others p)
+others-hold p r free (premise q) e = ap not (test-no (eqb p q) (λ same. test-clash e (subst (λ z. r (premise z) ≡ false) (eqb-true p q same) free)))
+others-hold p r free (guess g) e = refl
 
 pub own-reasons-only : {F : Type 0} (m : Model F) → Laws m → OwnReasonsOnly m
 unfolding afterStep
@@ -51,9 +51,9 @@ own-reasons-only {F} m l N force j k at p free b tidy clear x =
     subst (λ (T : Table F). T x .reasons (premise p) ≡ false) (sym (ap (λ (o : Option Constraint). afterTaken m N force o (b .table)) at))
     (cond-both (inForce force k) (fired m k (b .table)) (b .table) (λ (T : Table F). T x .reasons (premise p) ≡ false)
     (λ e.
-    let fits : Fits m l (Other p) (fired m k (b .table)) =
-    fired-fit m l (Other p) k (b .table) (other-scoped p (premisesOnly (ownedBy (k .owner))) free) (λ y. record { tidy = tidy y; scope = other-scoped p (b .table y .reasons) (clear y) }) in
-    test-no (fired m k (b .table) x .reasons (premise p)) (λ h. test-clash (eq-eqb p p refl) (fits x .scope (premise p) h)))
+    let fits : Fits m l (others p) (fired m k (b .table)) =
+    fired-fits m l (others p) k (b .table) (others-hold p (premisesOnly (ownedBy (k .owner))) free) (λ y. record { tidy = tidy y; scope = others-hold p (b .table y .reasons) (clear y) }) in
+    test-no (fired m k (b .table) x .reasons (premise p)) (λ h. test-clash (fits x .scope (premise p) h) (ap not (eq-eqb p p refl))))
     (λ e. clear x))
 
 -- ---- budgets

@@ -1,4 +1,4 @@
--- Over every history, what each answer claims holds. Assumes nothing.
+-- Over every history, what each answer claims holds.
 use mathlib.Core.Path.{_≡_, refl, sym, ap, subst, _∙_}
 use mathlib.Core.Bool.{Bool, true, false, not}
 use mathlib.Core.List.{List, [], _∷_}

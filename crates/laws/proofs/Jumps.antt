@@ -1,4 +1,4 @@
--- Jumps and guesses keep what holds of a search. Assumes nothing.
+-- Jumps and guesses keep what holds of a search.
 use mathlib.Core.Path.{_≡_, refl, sym, ap, subst, _∙_}
 use mathlib.Core.Bool.{Bool, true, false, cond, not, _&&_}
 use mathlib.Core.List.{List, [], _∷_}
@@ -13,7 +13,7 @@ use Rattle.std.specs.declared.option.Option.the-variants.{Some}
 use Rattle.std.specs.shelf.Lists.{All}
 use Rattle.std.proofs.shelf.Elements.{all-weaker, all-push}
 use Rattle.std.proofs.shelf.Signed.{ints, by-ltZ}
-use Rattle.std.proofs.shelf.Tests.{cond-both, cond-false, cases-lt, cases-eq, and-parts, and-from, not-true, le-leb, eqb-true, eq-eqb}
+use Rattle.std.proofs.shelf.Tests.{cond-both, cond-false, cases-lt, cases-eq, and-parts, and-from, not-true, le-leb, eqb-true, eq-eqb, ltb-true, lt-ltb}
 use Rattle.statements.proofs.Tests.{test-clash, test-cases}
 use Rattle.facts.specs.Model.{Model}
 use Rattle.facts.specs.Laws.{Laws}
@@ -21,9 +21,10 @@ use Rattle.facts.specs.Derived.{low, none}
 use Rattle.facts.proofs.Order.{none-no, start-allows}
 use Rattle.plan.specs.Placements.{Placement, Placed, Premises}
 use Rattle.sets.specs.Members.{Members}
-use Rattle.telling.specs.Reasons.{Tag, premise, guess, Reasons}
+use Rattle.telling.specs.Reasons.{Tag, premise, guess, Reasons, Among}
 use Rattle.telling.specs.Tables.{Cell, Table, startCell, changed}
 use Rattle.telling.specs.Stable.{LiesBy}
+use Rattle.telling.proofs.Fits.{Fit, Fits, start-fits}
 use Rattle.calls.specs.Networks.{Net}
 use Rattle.calls.specs.Boards.{Board, woken, reset}
 use Rattle.calls.specs.Running.{Clean}
@@ -33,9 +34,8 @@ use Rattle.laws.specs.Inside.{IsTold, TrailRight}
 use Rattle.laws.proofs.Numbered.{anyBelow-no}
 use Rattle.laws.proofs.Calms.{Calmed, unchanged-fact, woken-calmed}
 use Rattle.laws.proofs.Counts.{woken-bounded}
-use Rattle.laws.proofs.Fits.{Fit, Fits, startCell-fit}
-use Rattle.laws.proofs.Live.{AtHand, MeetsGuess, MeetsReasons, Lying, Live}
-use Rattle.laws.proofs.Trails.{Sub, sub-refl, sub-tail, before-sub, before-shorter, forcing-guesses, forcing-length, at-hand-sub, meets-longer, meets-shorter, Sure, TrueTrail, before-true, forcing-true, guess-cell}
+use Rattle.laws.proofs.Live.{atHand, MeetsGuess, MeetsReasons, Lying, Live}
+use Rattle.laws.proofs.Trails.{Sub, sub-refl, sub-tail, before-sub, before-shorter, forcing-guesses, forcing-length, at-hand-sub, at-hand-opened, meets-among, meets-longer, meets-shorter, Sure, TrueTrail, before-true, forcing-true, guess-cell}
 use Rattle.laws.proofs.Telling.{afterWord-below, afterWord-told, isTold-below, afterWords-told, TrueWord, wordOf-true, words-true, Good, afterWord-good, afterWords-good}
 
 -- ---- cells back at their start
@@ -45,14 +45,14 @@ module _ {F : Type 0} (m : Model F) (l : Laws m) (N : Net) where
   reset-same cells T x e = sym (ap (λ (c : Cell F). c .fact) (cond-false (cells x) (startCell m) (T x) e))
 
   -- A cell at its start fits whatever is at hand; another fits where its reasons are still at hand.
-  pub reset-fits : (R R′ : Tag → Type 0) (cells : Members) (T : Table F) → Fits m l R T → ((x : ℕ) → cells x ≡ false → (g : Tag) → T x .reasons g ≡ true → R′ g) → Fits m l R′ (reset m cells T)
-  reset-fits R R′ cells T ok left x =
-      cond-both (cells x) (startCell m) (T x) (Fit m R′) (λ e. startCell-fit m l R′) (λ e. record { tidy = ok x .tidy; scope = left x e })
+  pub reset-fits : (r r′ : Reasons) (cells : Members) (T : Table F) → Fits m l r T → ((x : ℕ) → cells x ≡ false → Among (T x .reasons) r′) → Fits m l r′ (reset m cells T)
+  reset-fits r r′ cells T ok left x =
+      cond-both (cells x) (startCell m) (T x) (Fit m l r′) (λ e. start-fits m l r′) (λ e. record { tidy = ok x .tidy; scope = left x e })
 
   -- What lies within a cell lies within one at its start.
-  pub reset-lies : (cells : Members) (T : Table F) (r : Reasons) (v : Placement) → Placed v → ((x : ℕ) → cells x ≡ false → ((g : Tag) → T x .reasons g ≡ true → r g ≡ true) → m .allows (T x .fact) (v x) ≡ true) → LiesBy m r v (reset m cells T)
+  pub reset-lies : (cells : Members) (T : Table F) (r : Reasons) (v : Placement) → Placed v → ((x : ℕ) → cells x ≡ false → Among (T x .reasons) r → m .allows (T x .fact) (v x) ≡ true) → LiesBy m r v (reset m cells T)
   reset-lies cells T r v P ok x =
-      cond-both (cells x) (startCell m) (T x) (λ (c : Cell F). ((g : Tag) → c .reasons g ≡ true → r g ≡ true) → m .allows (c .fact) (v x) ≡ true)
+      cond-both (cells x) (startCell m) (T x) (λ (c : Cell F). Among (c .reasons) r → m .allows (c .fact) (v x) ≡ true)
       (λ e h. start-allows m l (v x) (P x)) (λ e h. ok x e h)
 
 module _ {F : Type 0} (m : Model F) (l : Laws m) (N : Net) (Sort : Placement → Type 0) (placed : (v : Placement) → Sort v → Placed v) (force : Premises) where
@@ -82,7 +82,7 @@ module _ {F : Type 0} (m : Model F) (l : Laws m) (N : Net) (Sort : Placement →
     -- An open guess of the conflict other than the highest is open before it.
     lower-guess : (j : ℕ) → R (guess j) ≡ true → eqb g j ≡ false → j < guesses t₀
     lower-guess j h ne =
-        let a = s .live .fits x .scope (guess j) h in
+        let a = ltb-true j (guesses t) (s .live .fits x .scope (guess j) h) in
         let e = cut .0 in
         ⊎-elim (λ p. omega arith)
         (λ p. ⊎-elim
@@ -91,11 +91,11 @@ module _ {F : Type 0} (m : Model F) (l : Laws m) (N : Net) (Sort : Placement →
         (cases-eq j g))
         (cases-lt j g)
 
-    jump-scope : (q′ : Tag) → withoutGuess g R q′ ≡ true → AtHand force t₀ q′
+    jump-scope : Among (withoutGuess g R) (atHand force t₀)
     jump-scope (premise p) e = s .live .fits x .scope (premise p) (and-parts true (R (premise p)) e .1)
     jump-scope (guess j) e =
         let h = and-parts (not (eqb g j)) (R (guess j)) e in
-        lower-guess j (h .1) (not-true (eqb g j) (h .0))
+        lt-ltb j (guesses t₀) (lower-guess j (h .1) (not-true (eqb g j) (h .0)))
 
     -- What the jump forces is true: otherwise a placement would lie within the cell in conflict.
     jump-sure : Sure N Sort force c (n +ℤ pos 1) (withoutGuess g R) t₀
@@ -131,25 +131,25 @@ module _ {F : Type 0} (m : Model F) (l : Laws m) (N : Net) (Sort : Placement →
     back y = holdsFrom g (q .board .table y .reasons)
 
     -- A cell that stays has reasons that are still at hand.
-    back-left : (y : ℕ) → back y ≡ false → (q′ : Tag) → q .board .table y .reasons q′ ≡ true → AtHand force t′ q′
+    back-left : (y : ℕ) → back y ≡ false → Among (q .board .table y .reasons) (atHand force t′)
     back-left y e (premise p) h = s .live .fits y .scope (premise p) h
     back-left y e (guess j) h =
-        let a = s .live .fits y .scope (guess j) h in
+        let a = ltb-true j (guesses t) (s .live .fits y .scope (guess j) h) in
         let few = s .right .few-guesses in
         let b = forced-same .0 in
         let d = cut .0 in
-        ⊎-elim (λ p. omega arith)
+        ⊎-elim (λ p. lt-ltb j (guesses t′) (omega arith))
         (λ p. test-clash (and-from (leb g j) (q .board .table y .reasons (guess j)) (le-leb g j p) h) (anyBelow-no 32 (λ i. leb g i && q .board .table y .reasons (guess i)) e j (omega arith)))
         (cases-lt j g)
 
     reset-good : Good m l N Sort placed force t′ (reset m back (q .board .table))
     reset-good = (
-      reset-fits m l N (AtHand force t) (AtHand force t′) back (q .board .table) (s .live .fits) back-left,
+      reset-fits m l N (atHand force t) (atHand force t′) back (q .board .table) (s .live .fits) back-left,
       λ v P r met.
           reset-lies m l N back (q .board .table) r v (placed v P)
           (λ y e h. s .live .lying v P (q .board .table y .reasons)
-          (meets-longer N v t′ t (q .board .table y .reasons) jump-sub (λ j k. back-left y e (guess j) k)
-          (record { premises-met = Rattle.laws.proofs.Numbered.meets-fewer v (λ p. r (premise p)) (λ p. q .board .table y .reasons (premise p)) (N .constraints) (λ p k. h (premise p) k) (met .premises-met); guesses-met = λ j k. met .guesses-met j (h (guess j) k) }))
+          (meets-longer N v t′ t (q .board .table y .reasons) jump-sub (at-hand-opened force t′ (q .board .table y .reasons) (back-left y e))
+          (meets-among N v t′ r (q .board .table y .reasons) h met))
           y (λ h′ k. k)),
     )
 
@@ -200,8 +200,8 @@ module _ {F : Type 0} (m : Model F) (l : Laws m) (N : Net) (Sort : Placement →
         (λ y. record { tidy = s .live .fits y .tidy; scope = λ h k. at-hand-sub force t (e ∷ t) sub h (s .live .fits y .scope h k) }),
         (λ v P r met y h.
             s .live .lying v P (T y .reasons)
-            (meets-shorter N v t (e ∷ t) (T y .reasons) sub (λ j k. s .live .fits y .scope (guess j) k)
-            (record { premises-met = Rattle.laws.proofs.Numbered.meets-fewer v (λ p. r (premise p)) (λ p. T y .reasons (premise p)) (N .constraints) (λ p k. h (premise p) k) (met .premises-met); guesses-met = λ j k. met .guesses-met j (h (guess j) k) }))
+            (meets-shorter N v t (e ∷ t) (T y .reasons) sub (at-hand-opened force t (T y .reasons) (s .live .fits y .scope))
+            (meets-among N v (e ∷ t) r (T y .reasons) h met))
             y (λ h′ k. k)),
       ) in
       record {

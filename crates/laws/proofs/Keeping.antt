@@ -1,4 +1,4 @@
--- The keeping rule keeps what holds of each conflict, keeps conflicts apart, and at most 64. Assumes nothing.
+-- The keeping rule keeps what holds of each conflict, keeps conflicts apart, and at most 64.
 use mathlib.Core.Path.{_≡_, refl, sym, ap, subst, _∙_}
 use mathlib.Core.Bool.{Bool, true, false, cond, not}
 use mathlib.Core.List.{List, [], _∷_, _++_}

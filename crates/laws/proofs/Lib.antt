@@ -1,6 +1,5 @@
 pub mod Numbered
 pub mod Calms
-pub mod Fits
 pub mod Counts
 pub mod Live
 pub mod Runs

@@ -1,10 +1,11 @@
--- What holds of a cleared board, and that each step keeps it. Assumes nothing.
+-- What holds of a cleared board, and that each step keeps it.
 use mathlib.Core.Path.{_≡_, refl, sym, ap, subst, _∙_}
 use mathlib.Core.Bool.{Bool, true, false, cond}
 use mathlib.Core.List.{List, [], _∷_}
 use mathlib.Core.Logic.{_⊎_, inl, inr, ⊎-elim}
 use Prim.Native.Nat.{ℕ, _<_, _≤_}
 use native.Mathlib.Omega.{arith}
+use lib.Dec.{ltb}
 use lib.IntN.{ℤ}
 use lib.ListN.{length}
 use lib.Signed.{_≤ℤ_}
@@ -12,7 +13,7 @@ use Rattle.std.specs.Finite.{nth}
 use Rattle.std.specs.declared.option.Option.{Option}
 use Rattle.std.specs.declared.option.Option.the-variants.{Some, None}
 use Rattle.std.specs.shelf.Lists.{All}
-use Rattle.std.proofs.shelf.Tests.{cond-both}
+use Rattle.std.proofs.shelf.Tests.{cond-both, ltb-true}
 use Rattle.statements.proofs.Tests.{test-clash}
 use Rattle.facts.specs.Model.{Model, Tells}
 use Rattle.facts.specs.Laws.{Laws}
@@ -25,6 +26,7 @@ use Rattle.telling.specs.Reasons.{Tag, premise, guess, Reasons, Among, premises
 use Rattle.telling.specs.Tables.{Cell, Table, changed}
 use Rattle.telling.specs.Firing.{fired}
 use Rattle.telling.specs.Stable.{Stable, AboveBy, LiesBy}
+use Rattle.telling.proofs.Fits.{Fits, fired-fits}
 use Rattle.telling.proofs.PlacementCover.{loses-none}
 use Rattle.telling.proofs.StableCover.{tells-no-more}
 use Rattle.calls.specs.Networks.{Net, Planned, inForce, NoneMeets}
@@ -35,12 +37,11 @@ use Rattle.calls.specs.Searching.{NoGuess}
 use Rattle.laws.proofs.Numbered.{all-nth, nth-cases, inForce-holds, meets-at}
 use Rattle.laws.proofs.Calms.{Calmed, afterStep-calmed}
 use Rattle.laws.proofs.Counts.{woken-bounded, without-member}
-use Rattle.laws.proofs.Fits.{Fit, Fits, Scoped, fired-fit}
 
 -- The reasons at hand: premises in force and open guesses.
-abbrev pub AtHand : Premises → Trail → Tag → Type 0
-AtHand force t (premise p) = force p ≡ true
-AtHand force t (guess g) = g < guesses t
+abbrev pub atHand : Premises → Trail → Reasons
+atHand force t (premise p) = force p
+atHand force t (guess g) = ltb g (guesses t)
 
 -- The placement does what a guess says: the cell is at most its number.
 abbrev pub MeetsGuess : Placement → Option (ℕ × ℤ) → Type 0
@@ -77,7 +78,7 @@ module _ {F : Type 0} (m : Model F) (l : Laws m) (N : Net) where
 
     -- What holds of a cleared board with these premises in force and this trail.
     pub record Live (force : Premises) (t : Trail) (b : Board F) : Type 0 where
-      pub fits : Fits m l (AtHand force t) (b .table)
+      pub fits : Fits m l (atHand force t) (b .table)
       pub bounded : (j : ℕ) → b .waits j ≡ true → j < length (N .constraints)
       pub calmed : Calmed m l N force b
       pub lying : Lying t (b .table)
@@ -86,7 +87,7 @@ module _ {F : Type 0} (m : Model F) (l : Laws m) (N : Net) where
     fired-lying t j k at T ok v P r met =
         loses-none m l .lies-by-reasons k v (placed v P) r (λ h. meets-at v (premisesOf r) (N .constraints) j k (met .premises-met) at (owners-among r k h)) T (ok v P r met)
 
-    owners-scoped : Planned N → (force : Premises) (t : Trail) (j : ℕ) (k : Constraint) → nth (N .constraints) j ≡ Some k → inForce force k ≡ true → (g : Tag) → premisesOnly (ownedBy (k .owner)) g ≡ true → AtHand force t g
+    owners-scoped : Planned N → (force : Premises) (t : Trail) (j : ℕ) (k : Constraint) → nth (N .constraints) j ≡ Some k → inForce force k ≡ true → Among (premisesOnly (ownedBy (k .owner))) (atHand force t)
     owners-scoped ok force t j k at e (premise p) h = inForce-holds N ok force j k at e p h
     owners-scoped ok force t j k at e (guess g) h = test-clash h refl
 
@@ -97,11 +98,11 @@ module _ {F : Type 0} (m : Model F) (l : Laws m) (N : Net) where
         let o = nth (N .constraints) j in
         record {
           fits =
-              nth-cases {P = Fits m l (AtHand force t) (afterTaken m N force o T)} o
-              (λ e. subst (λ z. Fits m l (AtHand force t) (afterTaken m N force z T)) (sym e) (h .fits))
-              (λ k e. subst (λ z. Fits m l (AtHand force t) (afterTaken m N force z T)) (sym e)
-              (cond-both (inForce force k) (fired m k T) T (Fits m l (AtHand force t))
-              (λ f. fired-fit m l (AtHand force t) k T (owners-scoped ok force t j k e f) (h .fits)) (λ f. h .fits)));
+              nth-cases {P = Fits m l (atHand force t) (afterTaken m N force o T)} o
+              (λ e. subst (λ z. Fits m l (atHand force t) (afterTaken m N force z T)) (sym e) (h .fits))
+              (λ k e. subst (λ z. Fits m l (atHand force t) (afterTaken m N force z T)) (sym e)
+              (cond-both (inForce force k) (fired m k T) T (Fits m l (atHand force t))
+              (λ f. fired-fits m l (atHand force t) k T (owners-scoped ok force t j k e f) (h .fits)) (λ f. h .fits)));
           bounded = woken-bounded N force (changed m T (afterTaken m N force o T)) (without j (b .waits)) (λ i e. h .bounded i (without-member j i (b .waits) e));
           calmed = afterStep-calmed m l N force j b (h .calmed);
           lying =
@@ -117,7 +118,7 @@ module _ {F : Type 0} (m : Model F) (l : Laws m) (N : Net) where
         let r = b .table x .reasons in
         test-clash dead
         (none-no m l (b .table x .fact) (v x)
-        (h .lying v P r (record { premises-met = meets; guesses-met = λ g e. test-clash e (free g (h .fits x .scope (guess g) e)) }) x (λ g e. e)))
+        (h .lying v P r (record { premises-met = meets; guesses-met = λ g e. test-clash e (free g (ltb-true g (guesses t) (h .fits x .scope (guess g) e))) }) x (λ g e. e)))
 
     -- The premises of a cell are in force.
     pub reasons-in-force : (force : Premises) (t : Trail) (b : Board F) → Live force t b → (x p : ℕ) → premisesOf (b .table x .reasons) p ≡ true → force p ≡ true

@@ -1,4 +1,4 @@
--- Elements of lists by their numbers, sets of numbers, and the constraints of a planned network. Assumes nothing.
+-- Elements of lists by their numbers, sets of numbers, and the constraints of a planned network.
 use mathlib.Core.Path.{_≡_, refl, sym, ap, subst, _∙_}
 use mathlib.Core.Bool.{Bool, true, false, cond, not, _&&_, _||_}
 use mathlib.Core.List.{List, [], _∷_}

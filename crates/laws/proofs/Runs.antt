@@ -1,4 +1,4 @@
--- A run: what holds after it, its steps and their bound. Assumes nothing.
+-- A run: what holds after it, its steps and their bound.
 use mathlib.Core.Path.{_≡_, refl, sym, ap, subst, _∙_}
 use mathlib.Core.Bool.{Bool, true, false}
 use mathlib.Core.List.{List, [], _∷_}
@@ -6,7 +6,7 @@ use Prim.Native.Nat.{ℕ, zero, suc, _+_, _*_, _-_, _<_, _≤_}
 use native.Mathlib.Nat.{le-refl, le-trans}
 use native.Mathlib.Omega.{arith}
 use lib.ListN.{length}
-use Rattle.statements.proofs.Tests.{test-clash}
+use Rattle.std.proofs.shelf.Tests.{ltb-true}
 use Rattle.facts.specs.Model.{Model}
 use Rattle.facts.specs.Laws.{Laws}
 use Rattle.facts.specs.Derived.{none}
@@ -22,7 +22,7 @@ use Rattle.calls.specs.Running.{Outcome, quiet, conflict, spent, premisesOf, af
 use Rattle.laws.specs.Promises.{OnQuiet, OnConflict, Stepped}
 use Rattle.laws.proofs.Calms.{calmed-stable}
 use Rattle.laws.proofs.Counts.{measure, afterStep-size, afterStep-falls}
-use Rattle.laws.proofs.Live.{AtHand, Tabled, Live, afterTaken-tabled, afterStep-live, none-meets, reasons-in-force}
+use Rattle.laws.proofs.Live.{atHand, Tabled, Live, afterTaken-tabled, afterStep-live, none-meets, reasons-in-force}
 
 module _ {F : Type 0} (m : Model F) (l : Laws m) (N : Net) (ok : Planned N) where
   pub afterStep-tabled : (force : Premises) (j : ℕ) (b : Board F) → Tabled m l N (b .table) → Tabled m l N (afterStep m N force j b .table)
@@ -30,9 +30,9 @@ module _ {F : Type 0} (m : Model F) (l : Laws m) (N : Net) (ok : Planned N) wher
   afterStep-tabled force j b tb = afterTaken-tabled m l N force j (b .table) tb
 
   -- With no search open the reasons at hand are premises in force.
-  pub at-hand-premises : (force : Premises) (g : Tag) → AtHand force [] g → premisesOnly force g ≡ true
+  pub at-hand-premises : (force : Premises) → Among (atHand force []) (premisesOnly force)
   at-hand-premises force (premise p) h = h
-  at-hand-premises force (guess g) h = absurd (omega arith)
+  at-hand-premises force (guess g) h = absurd (let lt = ltb-true g 0 h in omega arith)
 
   -- What is said of a run's answer, of the board that it leaves.
   pub record QuietBoard (force : Premises) (b : Board F) : Type 0 where

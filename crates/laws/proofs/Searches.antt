@@ -1,4 +1,4 @@
--- A move and a seek: what holds after them, and what they answer. Assumes nothing.
+-- A move and a seek: what holds after them, and what they answer.
 use mathlib.Core.Path.{_≡_, refl, sym, ap, subst, _∙_}
 use mathlib.Core.Bool.{Bool, true, false}
 use mathlib.Core.List.{List, [], _∷_}

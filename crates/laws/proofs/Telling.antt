@@ -1,4 +1,4 @@
--- Telling what the entries of a trail say. Assumes nothing.
+-- Telling what the entries of a trail say.
 use mathlib.Core.Path.{_≡_, refl, sym, ap, subst, _∙_}
 use mathlib.Core.Bool.{Bool, true, false, cond}
 use mathlib.Core.List.{List, [], _∷_, _++_}
@@ -9,7 +9,7 @@ use lib.IntN.{ℤ}
 use Rattle.std.specs.declared.option.Option.the-variants.{Some, None}
 use Rattle.std.specs.shelf.Lists.{All}
 use Rattle.std.proofs.shelf.Elements.{all-weaker, all-push}
-use Rattle.std.proofs.shelf.Tests.{cond-both, cond-true, eqb-true, eq-eqb}
+use Rattle.std.proofs.shelf.Tests.{cond-both, cond-true, eqb-true, eq-eqb, lt-ltb}
 use Rattle.statements.specs.Numbers.{top, bottom}
 use Rattle.statements.specs.Statements.{allowed}
 use Rattle.statements.specs.declared.statement.Statement.the-variants.{Between}
@@ -25,15 +25,15 @@ use Rattle.telling.specs.Tables.{Table, facts}
 use Rattle.telling.specs.Telling.{afterTold}
 use Rattle.telling.proofs.Cover.{Cover, afterTold-sound}
 use Rattle.telling.proofs.Fires.{Below, below-refl, below-trans, afterTold-below, afterTold-fact}
+use Rattle.telling.proofs.Fits.{Fits, afterTold-fits}
 use Rattle.telling.proofs.Tells.{told-says}
 use Rattle.calls.specs.Networks.{Net}
 use Rattle.calls.specs.Running.{Clean}
 use Rattle.calls.specs.Trails.{Entry, guessed, forced, Trail, guesses, guessAt, isGuess, Word, wordOf, words}
 use Rattle.calls.specs.Searching.{afterWord, afterWords}
 use Rattle.laws.specs.Inside.{IsTold}
-use Rattle.laws.proofs.Fits.{Fits, afterTold-fit}
-use Rattle.laws.proofs.Live.{AtHand, MeetsGuess, MeetsReasons, Lying}
-use Rattle.laws.proofs.Trails.{Sub, sub-refl, sub-tail, at-hand-sub, meets-shorter, meets-among, Sure, TrueEntry, TrueTrail}
+use Rattle.laws.proofs.Live.{atHand, MeetsGuess, MeetsReasons, Lying}
+use Rattle.laws.proofs.Trails.{Sub, sub-refl, sub-tail, at-hand-sub, at-hand-opened, meets-shorter, meets-among, Sure, TrueEntry, TrueTrail}
 
 module _ {F : Type 0} (m : Model F) (l : Laws m) (N : Net) where
   -- ---- what is told
@@ -75,7 +75,7 @@ module _ {F : Type 0} (m : Model F) (l : Laws m) (N : Net) where
     -- A word about a cell of the network, for reasons at hand, that allows the number of every placement that meets these.
     pub record TrueWord (t : Trail) (w : Word) : Type 0 where
       pub of-cell : w .cell < N .cells
-      pub scope : (g : Tag) → w .reasons g ≡ true → AtHand force t g
+      pub scope : Among (w .reasons) (atHand force t)
       pub allows : (v : Placement) → Sort v → MeetsReasons N v t (w .reasons) → m .allows (m .stated (w .says)) (v (w .cell)) ≡ true
 
     pub wordOf-true : (t : Trail) (e : Entry) (es : Trail) → Sub (e ∷ es) t → TrueEntry N Sort force e es → TrueWord t (wordOf (guesses es) e)
@@ -89,16 +89,16 @@ module _ {F : Type 0} (m : Model F) (l : Laws m) (N : Net) where
           allows = λ v P met. between-allows m l bottom n (v c) (placed v P c) (placed v P c .0) (subst (MeetsGuess v) here (met .guesses-met g (eq-eqb g g refl)));
         }
       where
-        mine : (g : ℕ) → suc g ≤ guesses t → (q : Tag) → isGuess g q ≡ true → AtHand force t q
+        mine : (g : ℕ) → suc g ≤ guesses t → Among (isGuess g) (atHand force t)
         mine g f (premise p) e = test-clash e refl
-        mine g f (guess j) e = subst (λ z. z < guesses t) (eqb-true g j e) f
+        mine g f (guess j) e = let same = eqb-true g j e in lt-ltb j (guesses t) (omega arith)
     wordOf-true t (forced c n r) es s h =
         let s′ = sub-tail (forced c n r) es t s in
         let sure = h .1 in
         record {
           of-cell = h .0;
           scope = λ g e. at-hand-sub force es t s′ g (sure .scope g e);
-          allows = λ v P met. between-allows m l n top (v c) (placed v P c) (sure .holds v P (meets-shorter N v es t r s′ (λ g e. sure .scope (guess g) e) met)) (placed v P c .1);
+          allows = λ v P met. between-allows m l n top (v c) (placed v P c) (sure .holds v P (meets-shorter N v es t r s′ (at-hand-opened force es r (sure .scope)) met)) (placed v P c .1);
         }
 
     pub words-true : (t es : Trail) → Sub es t → TrueTrail N Sort force es → All (TrueWord t) (words es)
@@ -108,11 +108,11 @@ module _ {F : Type 0} (m : Model F) (l : Laws m) (N : Net) where
 
     -- What telling keeps: cells fit, and placements lie within.
     abbrev pub Good : Trail → Table F → Type 0
-    Good t T = Fits m l (AtHand force t) T × Lying m l N Sort placed t T
+    Good t T = Fits m l (atHand force t) T × Lying m l N Sort placed t T
 
     pub afterWord-good : (t : Trail) (w : Word) (T : Table F) → TrueWord t w → Good t T → Good t (afterWord m w T)
     afterWord-good t w T true-word ok = (
-      afterTold-fit m l (AtHand force t) (w .cell) (m .stated (w .says)) (w .reasons) T (true-word .scope) (ok .0),
+      afterTold-fits m l (atHand force t) (w .cell) (m .stated (w .says)) (w .reasons) T (ok .0) (true-word .scope),
       λ v P r met.
           let cover : Cover m = record {
             r = r;

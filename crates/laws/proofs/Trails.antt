@@ -1,4 +1,4 @@
--- The trail: what a guess number means, what a jump makes of it, and that its forced entries are true. Assumes nothing.
+-- The trail: what a guess number means, what a jump makes of it, and that its forced entries are true.
 use mathlib.Core.Path.{_≡_, refl, sym, ap, subst, _∙_}
 use mathlib.Core.Bool.{Bool, true, false, cond}
 use mathlib.Core.List.{List, [], _∷_, _++_}
@@ -11,7 +11,7 @@ use lib.ListN.{length}
 use lib.Signed.{_≤ℤ_}
 use Rattle.std.specs.declared.option.Option.{Option}
 use Rattle.std.specs.declared.option.Option.the-variants.{Some, None}
-use Rattle.std.proofs.shelf.Tests.{cond-both, cond-true, cond-false, eqb-true, ne-eqb, eq-eqb}
+use Rattle.std.proofs.shelf.Tests.{cond-both, cond-true, cond-false, eqb-true, ne-eqb, eq-eqb, ltb-true, lt-ltb}
 use Rattle.statements.proofs.Tests.{test-clash, test-cases}
 use Rattle.plan.specs.Placements.{Placement, Premises}
 use Rattle.telling.specs.Reasons.{Tag, premise, guess, Reasons, Among}
@@ -19,7 +19,7 @@ use Rattle.calls.specs.Networks.{Net}
 use Rattle.calls.specs.Running.{premisesOf}
 use Rattle.calls.specs.Trails.{Entry, guessed, forced, Trail, guesses, guessAt, before, forcing}
 use Rattle.laws.proofs.Numbered.{none-some, meets-fewer}
-use Rattle.laws.proofs.Live.{AtHand, MeetsGuess, MeetsReasons}
+use Rattle.laws.proofs.Live.{atHand, MeetsGuess, MeetsReasons}
 
 pub guessAt-below : (g : ℕ) (t : Trail) (e : ℕ × ℤ) → guessAt g t ≡ Some e → g < guesses t
 guessAt-below g [] e h = none-some e h
@@ -94,13 +94,17 @@ forcing-length c m r (forced d n q ∷ es) =
 
 -- ---- reasons, from one trail to another
 
-pub at-hand-sub : (force : Premises) (es t : Trail) → Sub es t → (g : Tag) → AtHand force es g → AtHand force t g
+pub at-hand-sub : (force : Premises) (es t : Trail) → Sub es t → Among (atHand force es) (atHand force t)
 at-hand-sub force es t s (premise p) h = h
-at-hand-sub force es t s (guess g) h = let f = s .fewer in omega arith
+at-hand-sub force es t s (guess g) h = let f = s .fewer in let lt = ltb-true g (guesses es) h in lt-ltb g (guesses t) (omega arith)
 
 -- The guesses among some reasons are open.
 abbrev pub Opened : Trail → Reasons → Type 0
 Opened t r = (g : ℕ) → r (guess g) ≡ true → g < guesses t
+
+-- Guesses at hand are open.
+pub at-hand-opened : (force : Premises) (t : Trail) (r : Reasons) → Among r (atHand force t) → Opened t r
+at-hand-opened force t r h g e = ltb-true g (guesses t) (h (guess g) e)
 
 pub meets-longer : (N : Net) (v : Placement) (es t : Trail) (r : Reasons) → Sub es t → Opened es r → MeetsReasons N v es r → MeetsReasons N v t r
 meets-longer N v es t r s o h = record { premises-met = h .premises-met; guesses-met = λ g e. subst (MeetsGuess v) (sym (s .means g (o g e))) (h .guesses-met g e) }
@@ -120,7 +124,7 @@ meets-among N v t r s h k = record {
 module _ (N : Net) (Sort : Placement → Type 0) (force : Premises) where
   -- The reasons are at hand, and in every placement that meets them the cell is at least m.
   pub record Sure (c : ℕ) (m : ℤ) (r : Reasons) (es : Trail) : Type 0 where
-    pub scope : (g : Tag) → r g ≡ true → AtHand force es g
+    pub scope : Among r (atHand force es)
     pub holds : (v : Placement) → Sort v → MeetsReasons N v es r → m ≤ℤ v c
 
   -- An entry is about a cell of the network, and a forced one is true.
@@ -140,7 +144,7 @@ module _ (N : Net) (Sort : Placement → Type 0) (force : Premises) where
   sure-under : (c : ℕ) (m : ℤ) (r : Reasons) (d : ℕ) (n : ℤ) (q : Reasons) (es : Trail) → Sure c m r (forced d n q ∷ es) → Sure c m r es
   sure-under c m r d n q es s = record { scope = λ g e. under g (s .scope g e); holds = λ v P k. s .holds v P (record { premises-met = k .premises-met; guesses-met = k .guesses-met }) }
     where
-      under : (g : Tag) → AtHand force (forced d n q ∷ es) g → AtHand force es g
+      under : Among (atHand force (forced d n q ∷ es)) (atHand force es)
       under (premise p) h = h
       under (guess j) h = h
 

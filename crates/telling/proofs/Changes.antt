@@ -2,12 +2,11 @@
 use mathlib.Core.Path.{_≡_, refl, sym, ap, ap₂, subst, _∙_, fun-ext}
 use mathlib.Core.Bool.{Bool, true, false, cond, not, _||_}
 use mathlib.Core.List.{List, [], _∷_, _++_}
-use mathlib.Core.Logic.{_⊎_, inl, inr, ⊎-elim}
+use mathlib.Core.Logic.{_⊎_, ⊎-elim}
 use Prim.Native.Nat.{ℕ}
 use lib.Dec.{eqb}
 use Rattle.std.specs.shelf.Lists.{All}
-use Rattle.std.proofs.shelf.Elements.{all-weaker}
-use Rattle.std.proofs.shelf.Tests.{cond-both, cond-true, cond-false, cases-eq, cases-bool, eq-eqb, ne-eqb, eqb-true, or-left}
+use Rattle.std.proofs.shelf.Tests.{cond-both, cond-false, cases-eq, eq-eqb, ne-eqb, or-left}
 use Rattle.statements.proofs.Tests.{test-clash, test-cases, test-no}
 use Rattle.facts.specs.Model.{Model, Tells}
 use Rattle.facts.specs.Laws.{Laws}
@@ -16,17 +15,17 @@ use Rattle.facts.proofs.Order.{tells-antisym}
 use Rattle.plan.specs.Forms.{named}
 use Rattle.plan.specs.Placements.{Premises, ownedBy}
 use Rattle.plan.specs.declared.constraint.Constraint.{Constraint}
-use Rattle.forms.specs.Tells.{tells, reads, conditionReads}
+use Rattle.forms.specs.Tells.{tells, conditionReads}
 use Rattle.forms.specs.declared.tell.Tell.{Tell}
 use Rattle.sets.specs.Members.{among}
 use Rattle.telling.specs.Reasons.{Reasons, together, premisesOnly}
-use Rattle.telling.specs.Tables.{Cell, Table, upd, facts, reasonsOf, changed}
+use Rattle.telling.specs.Tables.{Cell, Table, facts, reasonsOf, changed}
 use Rattle.telling.specs.Telling.{isMade, saidFact, tellReasons, toldCell, afterTold, afterTell}
 use Rattle.telling.specs.Firing.{afterTells, afterDead, afterDeads, inConflict, fired, ifChanged, tellsChange, deadsChange, firedChange}
 use Rattle.telling.specs.Theorems.{GoesSo}
-use Rattle.telling.proofs.Cases.{upd-cases, all-themselves, all-of}
+use Rattle.telling.proofs.Cases.{all-themselves, all-of}
 use Rattle.telling.proofs.Tells.{toldCell-fact}
-use Rattle.telling.proofs.Fires.{Below, tells-targets, afterTell-below, afterTells-below, afterDead-below, afterDeads-below}
+use Rattle.telling.proofs.Fires.{Below, tells-targets, afterTell-below, afterDead-below}
 use Rattle.telling.proofs.StableCover.{isMade-mono}
 
 among-append : (x : ℕ) (xs ys : List ℕ) → among x (xs ++ ys) ≡ (among x xs || among x ys)
@@ -112,10 +111,6 @@ module _ {F : Type 0} (m : Model F) (l : Laws m) where
     narrowed = λ x. Rattle.facts.proofs.Order.tells-trans m l (T₂ x .fact) (T₁ x .fact) (T x .fact) (q .narrowed x) (p .narrowed x);
     exactly = λ x. among-append x xs ys ∙ ap₂ _||_ (p .exactly x) (q .exactly x) ∙ sym (changed-twice T T₁ T₂ (p .narrowed) (q .narrowed) x);
   }
-
-  append-none : (xs : List ℕ) → xs ++ [] ≡ xs
-  append-none [] = refl
-  append-none (x ∷ xs) = ap (λ z. x ∷ z) (append-none xs)
 
   tracked-tell : (ps : Premises) (t : Tell) (T : Table F) → Tracked T (ifChanged m T (afterTell m ps t T) (t .target)) (afterTell m ps t T)
   tracked-tell ps t T = record {

@@ -1,6 +1,6 @@
 -- What firing keeps, whatever the cells are measured against.
-use mathlib.Core.Path.{_≡_, refl, sym, subst}
-use mathlib.Core.Bool.{Bool, true, false, cond}
+use mathlib.Core.Path.{_≡_, sym, subst}
+use mathlib.Core.Bool.{true, cond}
 use mathlib.Core.List.{List, [], _∷_}
 use Prim.Native.Nat.{ℕ}
 use Rattle.std.specs.shelf.Lists.{All}
@@ -14,8 +14,8 @@ use Rattle.plan.specs.Placements.{Premises, ownedBy}
 use Rattle.plan.specs.declared.constraint.Constraint.{Constraint}
 use Rattle.forms.specs.Tells.{tells, reads}
 use Rattle.forms.specs.declared.tell.Tell.{Tell}
-use Rattle.telling.specs.Reasons.{Tag, Reasons, Among, together, premisesOnly}
-use Rattle.telling.specs.Tables.{Cell, Table, upd, facts, reasonsOf}
+use Rattle.telling.specs.Reasons.{Reasons, Among, together, premisesOnly}
+use Rattle.telling.specs.Tables.{Cell, Table, facts, reasonsOf}
 use Rattle.telling.specs.Telling.{isMade, saidFact, tellReasons, toldCell, afterTold, afterTell}
 use Rattle.telling.specs.Firing.{afterTells, afterDead, afterDeads, inConflict, fired}
 use Rattle.telling.proofs.Cases.{upd-cases, any-implied, all-of}

@@ -1,6 +1,6 @@
 -- Firing and facts: facts only narrow, and nothing changes exactly where no tell has anything new to say.
 use mathlib.Core.Path.{_≡_, refl, sym, ap, subst, _∙_, fun-ext}
-use mathlib.Core.Bool.{Bool, true, false, cond}
+use mathlib.Core.Bool.{true, false}
 use mathlib.Core.List.{List, [], _∷_}
 use mathlib.Core.Logic.{_⊎_, inl, inr, ⊎-elim}
 use Prim.Native.Nat.{ℕ}
@@ -10,7 +10,7 @@ use Rattle.statements.proofs.Tests.{test-clash, test-cases}
 use Rattle.facts.specs.Model.{Model, Tells}
 use Rattle.facts.specs.Laws.{Laws}
 use Rattle.facts.specs.Derived.{none, dead, told}
-use Rattle.facts.proofs.Order.{tells-refl, tells-trans, tells-antisym, tells-dead, dead-tells}
+use Rattle.facts.proofs.Order.{tells-refl, tells-trans, tells-antisym, tells-dead}
 use Rattle.plan.specs.Forms.{named}
 use Rattle.plan.specs.Placements.{Premises, ownedBy}
 use Rattle.plan.specs.declared.constraint.Constraint.{Constraint}
@@ -19,7 +19,7 @@ use Rattle.plan.specs.declared.constraint.Form.the-variants.{State, Sum, Gap, A
 use Rattle.forms.specs.Tells.{tells}
 use Rattle.forms.specs.declared.tell.Tell.{Tell}
 use Rattle.telling.specs.Reasons.{Reasons, together, premisesOnly}
-use Rattle.telling.specs.Tables.{Cell, Table, upd, facts, reasonsOf}
+use Rattle.telling.specs.Tables.{Cell, Table, facts, reasonsOf}
 use Rattle.telling.specs.Telling.{isMade, saidFact, tellReasons, toldCell, afterTold, afterTell}
 use Rattle.telling.specs.Firing.{afterTells, afterDead, afterDeads, inConflict, fired}
 use Rattle.telling.proofs.Cases.{upd-cases, upd-here, any-none}

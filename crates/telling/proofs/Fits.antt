@@ -1,6 +1,6 @@
 -- Firing keeps facts tidy, and brings no reasons but the constraint's premises.
 use mathlib.Core.Path.{_≡_, refl}
-use mathlib.Core.Bool.{Bool, true, false, cond}
+use mathlib.Core.Bool.{cond}
 use mathlib.Core.List.{List, [], _∷_}
 use mathlib.Core.Logic.{⊎-elim}
 use Prim.Native.Nat.{ℕ}
@@ -15,7 +15,7 @@ use Rattle.plan.specs.Placements.{Premises, ownedBy}
 use Rattle.plan.specs.declared.constraint.Constraint.{Constraint}
 use Rattle.forms.specs.Tells.{tells, reads}
 use Rattle.forms.specs.declared.tell.Tell.{Tell}
-use Rattle.telling.specs.Reasons.{Tag, Reasons, Among, together, premisesOnly}
+use Rattle.telling.specs.Reasons.{Reasons, Among, together, premisesOnly}
 use Rattle.telling.specs.Tables.{Cell, Table, facts, reasonsOf, startCell}
 use Rattle.telling.specs.Telling.{isMade, saidFact, tellReasons, toldCell, afterTold, afterTell}
 use Rattle.telling.specs.Firing.{afterTells, afterDead, afterDeads, inConflict, fired}

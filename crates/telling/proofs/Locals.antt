@@ -1,17 +1,16 @@
 -- Whether a form has anything new to say is a matter of the cells that it names.
 use mathlib.Core.Path.{_≡_, refl, sym, ap, ap₂, _∙_}
-use mathlib.Core.Bool.{Bool, true, false, _||_}
+use mathlib.Core.Bool.{Bool, _||_}
 use mathlib.Core.List.{List, [], _∷_}
 use mathlib.Core.Logic.{inl, inr, ⊎-elim}
 use Prim.Native.Nat.{ℕ}
-use lib.IntN.{ℤ, pos, _+ℤ_, _-ℤ_}
+use lib.IntN.{ℤ, _+ℤ_, _-ℤ_}
 use lib.Signed.{ltZ}
 use Rattle.std.specs.shelf.Lists.{All}
 use Rattle.std.proofs.shelf.Elements.{all-weaker}
 use Rattle.statements.specs.Numbers.{top, bottom}
 use Rattle.statements.specs.declared.statement.Statement.the-variants.{Between}
 use Rattle.facts.specs.Model.{Model}
-use Rattle.facts.specs.Laws.{Laws}
 use Rattle.facts.specs.Derived.{low, high, none, dead, told}
 use Rattle.plan.specs.Forms.{named}
 use Rattle.plan.specs.declared.constraint.Form.{Form}

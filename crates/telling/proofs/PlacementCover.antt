@@ -1,8 +1,7 @@
 -- A placement covers what allows its numbers.
-use mathlib.Core.Path.{_≡_, refl, sym, subst, _∙_}
-use mathlib.Core.Bool.{Bool, true, false}
-use mathlib.Core.List.{List, [], _∷_}
-use mathlib.Core.Logic.{_⊎_, inl, inr}
+use mathlib.Core.Path.{_≡_, refl, _∙_}
+use mathlib.Core.Bool.{true, false}
+use mathlib.Core.List.{List}
 use Prim.Native.Nat.{ℕ}
 use native.Mathlib.Omega.{arith}
 use lib.IntN.{ℤ, pos, _+ℤ_, _-ℤ_}
@@ -14,13 +13,12 @@ use Rattle.statements.specs.Between.{between}
 use Rattle.statements.specs.Numbers.{top, bottom, InU, raised, lowered}
 use Rattle.statements.specs.Statements.{allowed}
 use Rattle.statements.specs.declared.statement.Statement.{Statement}
-use Rattle.statements.specs.declared.statement.Statement.the-variants.{Between}
 use Rattle.statements.proofs.Searches.{least-from-le, greatest-to-ge}
 use Rattle.statements.proofs.Statements.{allowed-within}
-use Rattle.statements.proofs.Tests.{test-clash, test-T, inside-made}
+use Rattle.statements.proofs.Tests.{test-T, inside-made}
 use Rattle.facts.specs.Model.{Model}
 use Rattle.facts.specs.Laws.{Laws}
-use Rattle.facts.specs.Derived.{none, tidy, start, dead, told}
+use Rattle.facts.specs.Derived.{none, told}
 use Rattle.facts.proofs.Order.{low-le, high-ge, none-no, start-allows, meet-allows-both}
 use Rattle.facts.proofs.TidyLaws.{tidy-allows}
 use Rattle.plan.specs.Forms.{named}
@@ -30,10 +28,8 @@ use Rattle.plan.specs.declared.constraint.Form.{Form}
 use Rattle.plan.specs.declared.constraint.Form.the-variants.{State, Sum, Gap, Apart}
 use Rattle.forms.specs.Tells.{tells, reads, up, down, holds, said}
 use Rattle.forms.specs.declared.tell.Tell.{Tell}
-use Rattle.telling.specs.Reasons.{Tag, Reasons, Among, everyReason, premisesOnly}
-use Rattle.telling.specs.Tables.{Table}
-use Rattle.telling.specs.Telling.{lows, highs, isMade, saidFact}
-use Rattle.telling.specs.Firing.{inConflict, fired}
+use Rattle.telling.specs.Reasons.{Reasons, Among, everyReason, premisesOnly}
+use Rattle.telling.specs.Telling.{lows, highs}
 use Rattle.telling.specs.Theorems.{LosesNone}
 use Rattle.telling.proofs.Cases.{any-clash, all-of}
 use Rattle.telling.proofs.Cover.{Cover, Fair, FairTell, FairDead, fired-sound}

@@ -1,19 +1,16 @@
 -- Each change makes a table smaller.
-use mathlib.Core.Path.{_≡_, refl, sym, ap, subst, _∙_}
+use mathlib.Core.Path.{_≡_, refl, sym, subst, _∙_}
 use mathlib.Core.Bool.{Bool, true, false, not}
-use mathlib.Core.Logic.{_≢_, ⊎-elim}
-use Prim.Native.Nat.{ℕ, zero, suc, _+_, _<_, _≤_}
+use mathlib.Core.Logic.{⊎-elim}
+use Prim.Native.Nat.{ℕ, zero, suc, _<_, _≤_}
 use native.Mathlib.Nat.{le-refl}
 use native.Mathlib.Omega.{arith}
 use Rattle.std.proofs.shelf.Tests.{cases-eq}
 use Rattle.statements.proofs.Tests.{test-clash, test-cases}
 use Rattle.facts.specs.Model.{Model, Tells}
 use Rattle.facts.specs.Laws.{Laws}
-use Rattle.facts.specs.Derived.{told}
 use Rattle.facts.proofs.TidyLaws.{told-size-falls}
-use Rattle.plan.specs.declared.constraint.Constraint.{Constraint}
-use Rattle.telling.specs.Tables.{Cell, Table, facts, changed, tableSize}
-use Rattle.telling.specs.Telling.{toldCell}
+use Rattle.telling.specs.Tables.{Table, facts, changed, tableSize}
 use Rattle.telling.specs.Firing.{fired}
 use Rattle.telling.specs.Theorems.{Shrinks}
 use Rattle.telling.proofs.Tells.{toldCell-fact}

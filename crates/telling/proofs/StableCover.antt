@@ -1,7 +1,7 @@
 -- A stable table covers what it tells at least as much as.
-use mathlib.Core.Path.{_≡_, refl, sym, ap, subst, _∙_}
-use mathlib.Core.Bool.{Bool, true, false}
-use mathlib.Core.List.{List, [], _∷_}
+use mathlib.Core.Path.{_≡_, refl, sym, subst}
+use mathlib.Core.Bool.{true}
+use mathlib.Core.List.{List}
 use mathlib.Core.Logic.{⊎-elim}
 use Prim.Native.Nat.{ℕ}
 use native.Mathlib.Omega.{arith}
@@ -13,34 +13,33 @@ use Rattle.std.proofs.shelf.Signed.{ints}
 use Rattle.statements.specs.Numbers.{top, bottom}
 use Rattle.statements.specs.Statements.{allowed}
 use Rattle.statements.specs.declared.statement.Statement.{Statement}
-use Rattle.statements.specs.declared.statement.Statement.the-variants.{Between}
 use Rattle.statements.proofs.Searches.{least-from-mono, greatest-to-mono}
 use Rattle.statements.proofs.Statements.{allowed-within}
 use Rattle.statements.proofs.Tests.{test-clash, test-T}
 use Rattle.facts.specs.Model.{Model, Tells}
 use Rattle.facts.specs.Laws.{Laws}
-use Rattle.facts.specs.Derived.{low, high, none, tidy, start, dead, told}
+use Rattle.facts.specs.Derived.{none, tidy, dead}
 use Rattle.facts.proofs.Order.{tells-refl, tells-trans, dead-tells, low-mono, high-mono, none-mono, between-mono}
 use Rattle.facts.proofs.TidyLaws.{tidy-mono, tidy-start}
 use Rattle.plan.specs.Forms.{named}
 use Rattle.plan.specs.Placements.{Premises, ownedBy, InForce}
 use Rattle.plan.specs.declared.constraint.Constraint.{Constraint}
-use Rattle.forms.specs.Tells.{tells, reads, conditionReads, sayingReads, up, down, holds, said}
+use Rattle.forms.specs.Tells.{tells, conditionReads, sayingReads, up, down, holds, said}
 use Rattle.forms.specs.declared.tell.Condition.{Condition}
 use Rattle.forms.specs.declared.tell.Condition.the-variants.{Always, Above}
 use Rattle.forms.specs.declared.tell.Saying.{Saying}
 use Rattle.forms.specs.declared.tell.Saying.the-variants.{Stated, Cut, Plus, Minus, From, UpTo}
 use Rattle.forms.specs.declared.tell.Tell.{Tell}
-use Rattle.telling.specs.Reasons.{Tag, premise, guess, Reasons, Among, everyReason, premisesOnly}
-use Rattle.telling.specs.Tables.{Table, facts, bare}
-use Rattle.telling.specs.Telling.{lows, highs, isMade, saidFact, afterTell}
+use Rattle.telling.specs.Reasons.{premise, Reasons, Among, everyReason, premisesOnly}
+use Rattle.telling.specs.Tables.{facts, bare}
+use Rattle.telling.specs.Telling.{lows, highs, isMade, saidFact}
 use Rattle.telling.specs.Firing.{inConflict, fired}
 use Rattle.telling.specs.Stable as stable
-use Rattle.telling.specs.Stable.{Still, Tidy, Stable}
+use Rattle.telling.specs.Stable.{Still, Tidy}
 use Rattle.telling.specs.Theorems.{TellsNoMore}
 use Rattle.telling.proofs.Cases.{all-left, all-right, any-implied, all-of}
 use Rattle.telling.proofs.Tells.{told-says, told-least}
-use Rattle.telling.proofs.Fires.{CalmTell, Calm, tells-targets, afterTell-below, fired-still}
+use Rattle.telling.proofs.Fires.{CalmTell, tells-targets, fired-still}
 use Rattle.telling.proofs.Cover.{Cover, Fair, FairTell, FairDead, fired-sound}
 
 -- ---- ends that lie further in

@@ -1,11 +1,11 @@
 -- What a fact or a cell is after being told.
-use mathlib.Core.Path.{_≡_, refl, sym, ap, subst, _∙_}
-use mathlib.Core.Bool.{Bool, true, false, cond}
+use mathlib.Core.Path.{_≡_, refl, sym, subst}
+use mathlib.Core.Bool.{cond}
 use Rattle.std.proofs.shelf.Tests.{cond-both}
 use Rattle.facts.specs.Model.{Model, Tells}
 use Rattle.facts.specs.Laws.{Laws}
 use Rattle.facts.specs.Derived.{tidy, dead, told}
-use Rattle.facts.proofs.Order.{tells-trans, tells-antisym, tells-dead, dead-tells, meet-tells-right, meet-least}
+use Rattle.facts.proofs.Order.{tells-trans, tells-dead, meet-tells-right, meet-least}
 use Rattle.facts.proofs.TidyLaws.{tidy-tells, tidy-mono, told-tells}
 use Rattle.telling.specs.Reasons.{Reasons, together}
 use Rattle.telling.specs.Tables.{Cell}

@@ -1,6 +1,6 @@
 -- Stable tables, and how a table of facts or a placement lies to a table of cells.
 use mathlib.Core.Path.{_≡_}
-use mathlib.Core.Bool.{Bool, true, false}
+use mathlib.Core.Bool.{true, false}
 use mathlib.Core.List.{List}
 use Prim.Native.Nat.{ℕ}
 use Rattle.std.specs.shelf.Lists.{All}
@@ -9,7 +9,7 @@ use Rattle.facts.specs.Derived.{low, high, none, tidy}
 use Rattle.plan.specs.Placements.{Placement, Premises, InForce}
 use Rattle.plan.specs.declared.constraint.Constraint.{Constraint}
 use Rattle.telling.specs.Reasons.{Reasons, Among}
-use Rattle.telling.specs.Tables.{Cell, Table, facts, bare}
+use Rattle.telling.specs.Tables.{Table, facts, bare}
 use Rattle.telling.specs.Firing.{fired}
 
 module _ {F : Type 0} (m : Model F) where

@@ -1,11 +1,11 @@
-use lib.IntN.{pos, _+ℤ_, _-ℤ_}
+use lib.IntN.{pos, _-ℤ_}
 use mathlib.Core.Path.{_≡_, ap, _∙_}
 use native.Mathlib.Omega.{arith}
 use mir.Syntax.{w64}
 use mir.Val.{toZ, ofZ}
 use Rattle.std.specs.declared.option.Option.the-variants.{Some, None}
 use Rattle.std.proofs.shelf.Signed.{ints}
-use Rattle.statements.specs.Numbers.{top, bottom}
+use Rattle.statements.specs.Numbers.{bottom}
 use Rattle.statements.specs.Search.{greatest-to, or-else}
 use Rattle.statements.specs.Statements.{allowed}
 use Rattle.statements.proofs.Searches.{greatest-to-is}

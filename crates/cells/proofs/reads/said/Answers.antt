@@ -4,7 +4,7 @@ use Rattle.std.proofs.shelf.Signed.{ints}
 use Rattle.telling.specs.Tables.{facts}
 use Rattle.telling.specs.Telling.{lows, highs}
 use Rattle.cells.specs.Meaning.{tableOf}
-use Rattle.cells.proofs.Readings.{said-cut, said-plus, said-minus, said-from, said-upto}
+use Rattle.cells.proofs.Readings.{said-plus, said-minus, said-from}
 use Rattle.cells.proofs.reads.said.Needs as need
 
 pub returns-in-Plus : need.returns-in-Plus

@@ -1,4 +1,4 @@
-use mathlib.Core.Path.{_≡_, sym, ap, _∙_}
+use mathlib.Core.Path.{_≡_, ap, _∙_}
 use mathlib.Core.Bool.{not}
 use Rattle.cells.specs.Meaning.{cellOf, tableOf}
 use Rattle.cells.proofs.Tables.{read-cell}

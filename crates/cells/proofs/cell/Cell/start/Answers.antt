@@ -1,4 +1,4 @@
-use mathlib.Core.Path.{_≡_, ap₂}
+use mathlib.Core.Path.{ap₂}
 use Rattle.facts.specs.Derived.{start}
 use Rattle.telling.specs.Reasons as theory
 use Rattle.telling.specs.Tables as tables

@@ -1,4 +1,3 @@
-use native.Mathlib.Omega.{arith}
 use borrow.Author.Needs.{needs}
 use Rattle.cells.proofs.Lists.{nth-take, nth-past-take}
 use Rattle.cells.proofs.changed.Changed.at.Needs as need

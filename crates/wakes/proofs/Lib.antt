@@ -1,0 +1,6 @@
+-- The lemmas on the index.
+mod Parts
+mod Naming
+mod Waking
+mod Force
+mod Copies
