@@ -1,5 +1,5 @@
 -- The keeping rule: which conflicts are kept.
-use mathlib.Core.Bool.{Bool, cond, not}
+use mathlib.Core.Bool.{cond, not}
 use mathlib.Core.List.{List, [], _∷_, _++_}
 use lib.Dec.{leb}
 use lib.ListN.{length}
@@ -7,8 +7,8 @@ use Rattle.std.specs.shelf.Lists.{kept-by}
 use Rattle.plan.specs.Placements.{Premises}
 use Rattle.telling.specs.Tables.{any}
 use Rattle.calls.specs.Networks.{within}
-use Rattle.calls.specs.Running.{Outcome, quiet, conflict}
-use Rattle.calls.specs.Searching.{Finding, found, none-left, full}
+use Rattle.calls.specs.Running.{Outcome, quiet, conflict, spent}
+use Rattle.calls.specs.Searching.{Finding, found, none-left, full, spent as tired}
 
 -- The kept conflicts that do not contain r.
 abbrev pub notAbove : Premises → List Premises → List Premises
@@ -24,11 +24,11 @@ keep r ks =
 abbrev pub keepRun : Outcome → List Premises → List Premises
 keepRun quiet ks = ks
 keepRun (conflict r) ks = keep r ks
-keepRun Rattle.calls.specs.Running.spent ks = ks
+keepRun spent ks = ks
 
 -- What is kept after a seek's answer.
 abbrev pub keepSeek : Finding → List Premises → List Premises
 keepSeek found ks = ks
 keepSeek (none-left r) ks = keep r ks
 keepSeek full ks = ks
-keepSeek Rattle.calls.specs.Searching.spent ks = ks
+keepSeek tired ks = ks

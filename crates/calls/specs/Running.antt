@@ -1,11 +1,11 @@
 -- A step, and a run: which steps it makes and what it answers.
 use mathlib.Core.Path.{_≡_}
-use mathlib.Core.Bool.{Bool, true, false, cond}
-use Prim.Native.Nat.{ℕ, zero, suc, _<_}
+use mathlib.Core.Bool.{true, false, cond}
+use Prim.Native.Nat.{ℕ, suc, _<_}
 use Rattle.std.specs.Finite.{nth}
 use Rattle.std.specs.declared.option.Option.{Option}
 use Rattle.std.specs.declared.option.Option.the-variants.{Some, None}
-use Rattle.sets.specs.Members.{Members, Nobody}
+use Rattle.sets.specs.Members.{Nobody}
 use Rattle.facts.specs.Model.{Model}
 use Rattle.facts.specs.Derived.{none}
 use Rattle.plan.specs.Placements.{Premises}

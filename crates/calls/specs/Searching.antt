@@ -1,9 +1,9 @@
 -- A move of a search, and seek: which moves it makes and what it answers.
 use mathlib.Core.Path.{_≡_}
-use mathlib.Core.Bool.{Bool, true, false, cond}
+use mathlib.Core.Bool.{true, false, cond}
 use mathlib.Core.List.{List, [], _∷_}
 use mathlib.Core.Logic.{_⊎_}
-use Prim.Native.Nat.{ℕ, zero, suc, _<_, _≤_}
+use Prim.Native.Nat.{ℕ, suc, _<_, _≤_}
 use lib.IntN.{ℤ}
 use lib.ListN.{length}
 use lib.Signed.{_<ℤ_}
@@ -19,7 +19,7 @@ use Rattle.telling.specs.Stable.{One}
 use Rattle.calls.specs.Networks.{Net}
 use Rattle.calls.specs.Boards.{Board, woken, reset}
 use Rattle.calls.specs.Running.{premisesOf, Clean, Lowest, afterStep}
-use Rattle.calls.specs.Trails.{Entry, guessed, Trail, guesses, guessAt, holdsFrom, jumpTrail, Word, wordOf, words}
+use Rattle.calls.specs.Trails.{guessed, Trail, guesses, guessAt, holdsFrom, jumpTrail, Word, wordOf, words}
 
 -- A board and the trail of the search that is open on it.
 pub record Search (F : Type 0) : Type 0 where

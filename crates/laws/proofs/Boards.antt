@@ -1,7 +1,7 @@
 -- Clear, bring and lift keep what holds of a cleared board.
 use mathlib.Core.Path.{_≡_, refl, sym, ap, subst, _∙_}
-use mathlib.Core.Bool.{Bool, true, false, cond, _||_}
-use mathlib.Core.List.{List, [], _∷_}
+use mathlib.Core.Bool.{true, false}
+use mathlib.Core.List.{List, []}
 use mathlib.Core.Logic.{⊎-elim}
 use Prim.Native.Nat.{ℕ, _<_}
 use lib.ListN.{length}
@@ -14,19 +14,18 @@ use Rattle.facts.specs.Model.{Model, Tells}
 use Rattle.facts.specs.Laws.{Laws}
 use Rattle.facts.proofs.Order.{start-allows}
 use Rattle.facts.proofs.TidyLaws.{tidy-start}
-use Rattle.plan.specs.Placements.{Placement, Placed, Premises, ownedBy, InForce}
+use Rattle.plan.specs.Placements.{Placement, Placed, Premises, ownedBy}
 use Rattle.plan.specs.declared.constraint.Constraint.{Constraint}
-use Rattle.sets.specs.Members.{Members}
-use Rattle.telling.specs.Reasons.{Tag, premise, guess, Reasons, Among, premisesOnly}
-use Rattle.telling.specs.Tables.{Cell, Table, upd, startCell}
+use Rattle.telling.specs.Reasons.{premise, guess, Among, premisesOnly}
+use Rattle.telling.specs.Tables.{Cell, upd, startCell}
 use Rattle.telling.proofs.Cases.{upd-cases}
 use Rattle.telling.proofs.Fits.{start-fits}
 use Rattle.calls.specs.Networks.{Net, Planned, inForce}
-use Rattle.calls.specs.Boards.{Board, woken, reset}
+use Rattle.calls.specs.Boards.{Board, reset}
 use Rattle.calls.specs.Trails.{Trail}
 use Rattle.calls.specs.Calls.{standing, belongs, clearBoard, bringBoard, resting, liftBoard}
-use Rattle.laws.proofs.Numbered.{none-some, nth-below, inForce-holds, inForce-made}
-use Rattle.laws.proofs.Calms.{Calmed, woken-calmed}
+use Rattle.laws.proofs.Numbered.{nth-below, inForce-holds, inForce-made}
+use Rattle.laws.proofs.Calms.{woken-calmed}
 use Rattle.laws.proofs.Counts.{woken-bounded}
 use Rattle.laws.proofs.Live.{atHand, Tabled, Live}
 use Rattle.laws.proofs.Jumps.{reset-same, reset-fits, reset-lies}

@@ -1,9 +1,8 @@
 -- Each step makes the number waiting, plus the number of constraints times the table's size, smaller.
-use mathlib.Core.Path.{_≡_, refl, sym, ap, subst, _∙_}
-use mathlib.Core.Bool.{Bool, true, false, cond, not, _&&_, _||_}
-use mathlib.Core.List.{List, [], _∷_}
-use mathlib.Core.Logic.{_⊎_, inl, inr, ⊎-elim}
-use Prim.Native.Nat.{ℕ, zero, suc, _+_, _*_, _<_, _≤_}
+use mathlib.Core.Path.{_≡_, refl, ap}
+use mathlib.Core.Bool.{true, false, not, _&&_}
+use mathlib.Core.Logic.{_⊎_, ⊎-elim}
+use Prim.Native.Nat.{ℕ, suc, _+_, _*_, _<_, _≤_}
 use native.Mathlib.Nat.{mul-le-mul-left}
 use native.Mathlib.Omega.{arith}
 use lib.Dec.{eqb}
@@ -11,7 +10,6 @@ use lib.ListN.{length}
 use Rattle.std.specs.Finite.{nth}
 use Rattle.std.specs.declared.option.Option.{Option}
 use Rattle.std.specs.declared.option.Option.the-variants.{Some, None}
-use Rattle.std.specs.shelf.Lists.{All}
 use Rattle.std.proofs.shelf.Elements.{all-weaker}
 use Rattle.std.proofs.shelf.Tests.{cond-both, or-cases, and-parts, eq-eqb}
 use Rattle.statements.proofs.Tests.{test-clash, test-cases}
@@ -29,7 +27,7 @@ use Rattle.telling.proofs.Sizes.{below-size-le, below-size-lt}
 use Rattle.calls.specs.Networks.{Net, Planned, inForce}
 use Rattle.calls.specs.Boards.{Board, anyBelow, without, concerns, woken}
 use Rattle.calls.specs.Running.{afterTaken, afterStep}
-use Rattle.laws.proofs.Numbered.{none-some, nth-below, nth-cases, anyBelow-no, anyBelow-yes, count-mono, count-less, count-below, named-below}
+use Rattle.laws.proofs.Numbered.{nth-below, anyBelow-no, anyBelow-yes, count-mono, count-less, count-below, named-below}
 
 -- ---- waking
 

@@ -1,10 +1,8 @@
 -- What no network does.
 use mathlib.Core.Path.{_≡_, refl, sym, ap, subst, _∙_}
-use mathlib.Core.Bool.{Bool, true, false, cond, not}
+use mathlib.Core.Bool.{true, false, not}
 use mathlib.Core.List.{List, [], _∷_}
-use mathlib.Core.Logic.{⊎-elim}
 use Prim.Native.Nat.{ℕ, zero, suc, _+_, _<_, _≤_}
-use native.Mathlib.Nat.{le-refl}
 use native.Mathlib.Omega.{arith}
 use lib.Dec.{eqb}
 use Rattle.std.specs.Finite.{nth}
@@ -14,23 +12,23 @@ use Rattle.std.proofs.shelf.Tests.{cond-both, cond-true, cond-false, eqb-true, 
 use Rattle.statements.proofs.Tests.{test-clash, test-cases, test-no}
 use Rattle.facts.specs.Model.{Model}
 use Rattle.facts.specs.Laws.{Laws}
-use Rattle.plan.specs.Placements.{Placement, Placed, Premises, ownedBy, Meets}
+use Rattle.plan.specs.Placements.{Placed, Premises, ownedBy}
 use Rattle.plan.specs.declared.constraint.Constraint.{Constraint}
-use Rattle.telling.specs.Reasons.{Tag, premise, guess, Reasons, Among, premisesOnly}
-use Rattle.telling.specs.Tables.{Table, facts, upd}
+use Rattle.telling.specs.Reasons.{premise, guess, Reasons, Among, premisesOnly}
+use Rattle.telling.specs.Tables.{Table, upd}
 use Rattle.telling.specs.Firing.{fired}
 use Rattle.telling.proofs.Fits.{Fits, fired-fits}
-use Rattle.calls.specs.Networks.{Net, Planned, within, inForce, NoneMeets}
+use Rattle.calls.specs.Networks.{Net, within, inForce, NoneMeets}
 use Rattle.calls.specs.Boards.{Board}
 use Rattle.calls.specs.Running.{Outcome, quiet, conflict, spent, afterTaken, afterStep, Run, clashes, rests, tires, steps}
-use Rattle.calls.specs.Searching.{Finding, found, none-left, full, spent as tired, Seek, fails, finds, fills, moves}
+use Rattle.calls.specs.Searching.{Search, Finding, found, none-left, full, spent as tired, Seek, fails, finds, fills, moves}
 use Rattle.calls.specs.Searching.{tires as wearies}
-use Rattle.calls.specs.States.{State, isOpen}
-use Rattle.calls.specs.Refusals.{Refusal, kept-conflict, numberOf, Row, firstRow, keptRows, whileOpen, uncleared, absent, brought, rows, bring, refusal}
+use Rattle.calls.specs.States.{State}
+use Rattle.calls.specs.Refusals.{Refusal, search-open, not-cleared, other-length, no-search, no-such, already, kept-conflict, something-waits, numberOf, Row, firstRow, keptRows, whileOpen, uncleared, absent, brought, refusal}
 use Rattle.calls.specs.Calls.{Answer, refused, done, lifted, ran, shown, listed, sought, finished}
-use Rattle.calls.specs.Histories.{Event, History}
+use Rattle.calls.specs.Histories.{Event}
 use Rattle.laws.specs.Promises.{Always, OnRun, OnConflict, OnSeek, OnNone, OverHistories, Contradicted, ConflictsRight}
-use Rattle.laws.specs.Excluded.{OwnReasonsOnly, WithinBudget, OnlyInVain, KeptWithin, OnlyKept}
+use Rattle.laws.specs.Excluded.{OwnReasonsOnly, WithinBudget, OnlyInVain, OnlyKept}
 use Rattle.laws.proofs.Numbered.{none-some, meets-fewer}
 use Rattle.laws.proofs.Histories.{promises}
 
@@ -65,7 +63,7 @@ module _ {F : Type 0} (m : Model F) (N : Net) (force : Premises) where
   run-within (tires j b clean w) = omega arith
   run-within (steps i n j b b′ o clean w r) = let h = run-within r in omega arith
 
-  seek-within : {i : ℕ} {q : Rattle.calls.specs.Searching.Search F} {o : Finding} {n : ℕ} {q′ : Rattle.calls.specs.Searching.Search F} → Seek m N force i q o n q′ → n ≤ i
+  seek-within : {i : ℕ} {q : Search F} {o : Finding} {n : ℕ} {q′ : Search F} → Seek m N force i q o n q′ → n ≤ i
   seek-within (fails i q r v) = omega arith
   seek-within (finds i q v) = omega arith
   seek-within (fills i q v) = omega arith
@@ -136,14 +134,14 @@ row-passed r rs i other e =
 -- The index of a kept conflict.
 abbrev index : Option Refusal → ℕ
 index None = 0
-index (Some Rattle.calls.specs.Refusals.search-open) = 0
-index (Some Rattle.calls.specs.Refusals.not-cleared) = 0
-index (Some Rattle.calls.specs.Refusals.other-length) = 0
-index (Some Rattle.calls.specs.Refusals.no-search) = 0
-index (Some Rattle.calls.specs.Refusals.no-such) = 0
-index (Some Rattle.calls.specs.Refusals.already) = 0
+index (Some search-open) = 0
+index (Some not-cleared) = 0
+index (Some other-length) = 0
+index (Some no-search) = 0
+index (Some no-such) = 0
+index (Some already) = 0
 index (Some (kept-conflict i)) = i
-index (Some Rattle.calls.specs.Refusals.something-waits) = 0
+index (Some something-waits) = 0
 
 -- The d-th of some kept conflicts is the first within ps.
 pub record First (ps : Premises) (ks : List Premises) (d : ℕ) : Type 0 where

@@ -1,13 +1,11 @@
 -- Over every history, what each answer claims holds.
 use mathlib.Core.Path.{_≡_, refl, sym, ap, subst, _∙_}
-use mathlib.Core.Bool.{Bool, true, false, not}
+use mathlib.Core.Bool.{true, false}
 use mathlib.Core.List.{List, [], _∷_}
-use mathlib.Core.Logic.{_⊎_, inl, inr}
-use Prim.Native.Nat.{ℕ, zero, suc, _<_, _≤_}
-use native.Mathlib.Nat.{le-refl}
+use mathlib.Core.Logic.{inl, inr}
+use Prim.Native.Nat.{ℕ, _≤_}
 use native.Mathlib.Omega.{arith}
 use lib.ListN.{length}
-use Rattle.std.specs.Finite.{nth}
 use Rattle.std.specs.declared.option.Option.{Option}
 use Rattle.std.specs.declared.option.Option.the-variants.{Some, None}
 use Rattle.std.specs.shelf.Lists.{All}
@@ -16,28 +14,26 @@ use Rattle.std.proofs.shelf.Tests.{cond-true, cond-false, not-false}
 use Rattle.statements.proofs.Tests.{test-clash, test-cases}
 use Rattle.facts.specs.Model.{Model}
 use Rattle.facts.specs.Laws.{Laws, Exact}
-use Rattle.plan.specs.Placements.{Placement, Placed, Premises, InForce}
-use Rattle.plan.specs.declared.constraint.Constraint.{Constraint}
+use Rattle.plan.specs.Placements.{Placed, Premises, InForce, Meets}
 use Rattle.sets.specs.Members.{Within, count}
-use Rattle.telling.specs.Tables.{upd}
+use Rattle.telling.specs.Tables.{upd, facts}
 use Rattle.telling.specs.Stable.{Stable, Still}
 use Rattle.calls.specs.Networks.{Net, Planned, NoneMeets}
 use Rattle.calls.specs.Boards.{Board}
 use Rattle.calls.specs.Running.{Outcome, quiet, conflict, spent}
 use Rattle.calls.specs.Trails.{Trail, guesses, words}
-use Rattle.calls.specs.Searching.{Search, Finding, found, none-left, full, spent as tired}
+use Rattle.calls.specs.Searching.{Finding, found, none-left, full, spent as tired}
 use Rattle.calls.specs.Keeping.{keepRun, keepSeek}
 use Rattle.calls.specs.States.{State, isOpen}
-use Rattle.calls.specs.Refusals.{Call, clear, bring, lift, run, read, kept, begin, seek, finish, Refusal, Row, firstRow, keptRows, whileOpen, uncleared, misfit, unopened, absent, brought, waiting, rows, refusal}
+use Rattle.calls.specs.Refusals.{Call, clear, bring, lift, run, read, kept, begin, seek, finish, Row, firstRow, keptRows, whileOpen, uncleared, misfit, absent, brought, waiting, refusal}
 use Rattle.calls.specs.Refusals.{lifted as out}
-use Rattle.calls.specs.Calls.{Answer, refused, done, lifted, ran, shown, listed, sought, finished, clearBoard, bringBoard, liftBoard, resting, reading, Does, refuses, clears, brings, lifts, runs, reads, lists, begins, seeks, finishes, idles}
-use Rattle.calls.specs.Histories.{Event, Offers, Made, History, made, calls}
-use Rattle.laws.specs.Promises.{Always, OnQuiet, OnConflict, OnFound, OnNone, Rested, Stepped, RunsRight, Names, by-run, by-seek, Answered, Contradicted, ConflictsRight, Moved, Placing, SeeksRight, RefusalsRight, Hopeless, ConflictsHopeless, StableForFewer, Promised, Promises}
-use Rattle.laws.specs.Inside.{Apart, TrailRight, InsideRight, StaysRight}
+use Rattle.calls.specs.Calls.{Answer, refused, done, lifted, ran, listed, sought, finished, clearBoard, bringBoard, liftBoard, resting, reading, Does, refuses, clears, brings, lifts, runs, reads, lists, begins, seeks, finishes, idles}
+use Rattle.calls.specs.Histories.{Event, Offers, History, made, calls}
+use Rattle.laws.specs.Promises.{Always, OnQuiet, OnConflict, OnFound, OnNone, Rested, RunsRight, by-run, by-seek, Answered, Contradicted, ConflictsRight, Placing, SeeksRight, RefusalsRight, Hopeless, ConflictsHopeless, StableForFewer, Promised, Promises, numbers}
+use Rattle.laws.specs.Inside.{Apart, StaysRight}
 use Rattle.laws.proofs.Numbered.{none-some, all-nth, all-from-nth}
 use Rattle.laws.proofs.Live.{Tabled, Live}
 use Rattle.laws.proofs.Runs.{QuietBoard, ConflictBoard, Ran, run-right, ran-stepped}
-use Rattle.laws.proofs.Jumps.{Searching}
 use Rattle.laws.proofs.Searches.{Sound, Vain, Met, Sought, seek-right}
 use Rattle.laws.proofs.Keeping.{keep-all, keeps-apart}
 use Rattle.laws.proofs.Boards.{clear-live, clear-tabled, bring-live, bring-tabled, lift-live, lift-tabled}
@@ -108,7 +104,7 @@ module _ {F : Type 0} (m : Model F) (l : Laws m) (N : Net) (ok : Planned N) wher
     where
       on-quiet : (o : Outcome) → OnQuiet (QuietBoard m l N ok (s .force) (s′ .board)) o → OnQuiet (Rested m N s′) o
       on-quiet quiet q = record {
-        stable = subst (λ f. Stable m (N .constraints) f (Rattle.telling.specs.Tables.facts (s′ .board .table))) (sym same) (q .stable);
+        stable = subst (λ f. Stable m (N .constraints) f (facts (s′ .board .table))) (sym same) (q .stable);
         least = λ φ st x. q .least φ (subst (λ f. Stable m (N .constraints) f φ) same st) x;
       }
       on-quiet (conflict z) q = tt
@@ -149,7 +145,7 @@ module _ {F : Type 0} (m : Model F) (l : Laws m) (N : Net) (ok : Planned N) wher
   }
     where
       on-found : (o : Finding) → OnFound (Met m l N ok (s .force) (record { board = s′ .board; trail = t′ })) o → OnFound (Placing m N s′) o
-      on-found found q = let p = q exact in (p .0, subst (λ f. Rattle.plan.specs.Placements.Meets (Rattle.laws.specs.Promises.numbers m N s′) f (N .constraints)) (sym same) (p .1))
+      on-found found q = let p = q exact in (p .0, subst (λ f. Meets (numbers m N s′) f (N .constraints)) (sym same) (p .1))
       on-found (none-left z) q = tt
       on-found full q = tt
       on-found tired q = tt

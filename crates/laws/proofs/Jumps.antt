@@ -1,15 +1,14 @@
 -- Jumps and guesses keep what holds of a search.
-use mathlib.Core.Path.{_≡_, refl, sym, ap, subst, _∙_}
-use mathlib.Core.Bool.{Bool, true, false, cond, not, _&&_}
-use mathlib.Core.List.{List, [], _∷_}
-use mathlib.Core.Logic.{_⊎_, inl, inr, ⊎-elim}
-use Prim.Native.Nat.{ℕ, suc, _<_, _≤_}
+use mathlib.Core.Path.{_≡_, sym, ap, subst, _∙_}
+use mathlib.Core.Bool.{true, false, not, _&&_}
+use mathlib.Core.List.{_∷_}
+use mathlib.Core.Logic.{_⊎_, ⊎-elim}
+use Prim.Native.Nat.{ℕ, _<_, _≤_}
 use native.Mathlib.Omega.{arith}
 use lib.Dec.{eqb, leb}
 use lib.IntN.{ℤ, pos, _+ℤ_}
 use lib.ListN.{length}
 use lib.Signed.{_≤ℤ_}
-use Rattle.std.specs.declared.option.Option.the-variants.{Some}
 use Rattle.std.specs.shelf.Lists.{All}
 use Rattle.std.proofs.shelf.Elements.{all-weaker, all-push}
 use Rattle.std.proofs.shelf.Signed.{ints, by-ltZ}
@@ -21,20 +20,20 @@ use Rattle.facts.specs.Derived.{low, none}
 use Rattle.facts.proofs.Order.{none-no, start-allows}
 use Rattle.plan.specs.Placements.{Placement, Placed, Premises}
 use Rattle.sets.specs.Members.{Members}
-use Rattle.telling.specs.Reasons.{Tag, premise, guess, Reasons, Among}
+use Rattle.telling.specs.Reasons.{premise, guess, Reasons, Among}
 use Rattle.telling.specs.Tables.{Cell, Table, startCell, changed}
 use Rattle.telling.specs.Stable.{LiesBy}
 use Rattle.telling.proofs.Fits.{Fit, Fits, start-fits}
 use Rattle.calls.specs.Networks.{Net}
-use Rattle.calls.specs.Boards.{Board, woken, reset}
+use Rattle.calls.specs.Boards.{woken, reset}
 use Rattle.calls.specs.Running.{Clean}
-use Rattle.calls.specs.Trails.{Entry, guessed, Trail, guesses, guessAt, before, forcing, isGuess, withoutGuess, holdsFrom, jumpTrail, Word, wordOf, words}
+use Rattle.calls.specs.Trails.{guessed, Trail, guesses, guessAt, before, withoutGuess, holdsFrom, jumpTrail, wordOf, words}
 use Rattle.calls.specs.Searching.{Search, Highest, afterWord, afterWords, afterJump, afterGuess}
 use Rattle.laws.specs.Inside.{IsTold, TrailRight}
 use Rattle.laws.proofs.Numbered.{anyBelow-no}
-use Rattle.laws.proofs.Calms.{Calmed, unchanged-fact, woken-calmed}
+use Rattle.laws.proofs.Calms.{unchanged-fact, woken-calmed}
 use Rattle.laws.proofs.Counts.{woken-bounded}
-use Rattle.laws.proofs.Live.{atHand, MeetsGuess, MeetsReasons, Lying, Live}
+use Rattle.laws.proofs.Live.{atHand, MeetsGuess, MeetsReasons, Live}
 use Rattle.laws.proofs.Trails.{Sub, sub-refl, sub-tail, before-sub, before-shorter, forcing-guesses, forcing-length, at-hand-sub, at-hand-opened, meets-among, meets-longer, meets-shorter, Sure, TrueTrail, before-true, forcing-true, guess-cell}
 use Rattle.laws.proofs.Telling.{afterWord-below, afterWord-told, isTold-below, afterWords-told, TrueWord, wordOf-true, words-true, Good, afterWord-good, afterWords-good}
 

@@ -1,15 +1,14 @@
 -- The keeping rule keeps what holds of each conflict, keeps conflicts apart, and at most 64.
-use mathlib.Core.Path.{_≡_, refl, sym, ap, subst, _∙_}
+use mathlib.Core.Path.{_≡_, refl, ap}
 use mathlib.Core.Bool.{Bool, true, false, cond, not}
 use mathlib.Core.List.{List, [], _∷_, _++_}
-use Prim.Native.Nat.{ℕ, suc, _+_, _<_, _≤_}
+use Prim.Native.Nat.{suc, _+_, _≤_}
 use native.Mathlib.Nat.{le-refl}
 use native.Mathlib.Omega.{arith}
 use lib.Dec.{leb}
 use lib.ListN.{length}
 use Rattle.std.specs.shelf.Lists.{All, kept-by}
-use Rattle.std.proofs.shelf.Elements.{all-weaker, all-push, all-kept-by, kept-by-passes}
-use Rattle.std.proofs.shelf.Lists.{length-append}
+use Rattle.std.proofs.shelf.Elements.{all-push, all-kept-by, kept-by-passes}
 use Rattle.std.proofs.shelf.Tests.{cond-both, not-true, leb-false}
 use Rattle.plan.specs.Placements.{Premises}
 use Rattle.telling.specs.Tables.{any}

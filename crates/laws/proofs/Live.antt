@@ -1,10 +1,7 @@
 -- What holds of a cleared board, and that each step keeps it.
-use mathlib.Core.Path.{_≡_, refl, sym, ap, subst, _∙_}
-use mathlib.Core.Bool.{Bool, true, false, cond}
-use mathlib.Core.List.{List, [], _∷_}
-use mathlib.Core.Logic.{_⊎_, inl, inr, ⊎-elim}
+use mathlib.Core.Path.{_≡_, refl, sym, subst}
+use mathlib.Core.Bool.{true}
 use Prim.Native.Nat.{ℕ, _<_, _≤_}
-use native.Mathlib.Omega.{arith}
 use lib.Dec.{ltb}
 use lib.IntN.{ℤ}
 use lib.ListN.{length}
@@ -12,25 +9,23 @@ use lib.Signed.{_≤ℤ_}
 use Rattle.std.specs.Finite.{nth}
 use Rattle.std.specs.declared.option.Option.{Option}
 use Rattle.std.specs.declared.option.Option.the-variants.{Some, None}
-use Rattle.std.specs.shelf.Lists.{All}
 use Rattle.std.proofs.shelf.Tests.{cond-both, ltb-true}
 use Rattle.statements.proofs.Tests.{test-clash}
-use Rattle.facts.specs.Model.{Model, Tells}
+use Rattle.facts.specs.Model.{Model}
 use Rattle.facts.specs.Laws.{Laws}
 use Rattle.facts.specs.Derived.{none}
 use Rattle.facts.proofs.Order.{none-no}
-use Rattle.plan.specs.Placements.{Placement, Placed, Premises, ownedBy, InForce, Satisfies, Meets}
+use Rattle.plan.specs.Placements.{Placement, Placed, Premises, ownedBy, InForce, Meets}
 use Rattle.plan.specs.declared.constraint.Constraint.{Constraint}
-use Rattle.sets.specs.Members.{Members}
-use Rattle.telling.specs.Reasons.{Tag, premise, guess, Reasons, Among, premisesOnly}
-use Rattle.telling.specs.Tables.{Cell, Table, changed}
+use Rattle.telling.specs.Reasons.{premise, guess, Reasons, Among, premisesOnly}
+use Rattle.telling.specs.Tables.{Table, changed}
 use Rattle.telling.specs.Firing.{fired}
 use Rattle.telling.specs.Stable.{Stable, AboveBy, LiesBy}
 use Rattle.telling.proofs.Fits.{Fits, fired-fits}
 use Rattle.telling.proofs.PlacementCover.{loses-none}
 use Rattle.telling.proofs.StableCover.{tells-no-more}
 use Rattle.calls.specs.Networks.{Net, Planned, inForce, NoneMeets}
-use Rattle.calls.specs.Boards.{Board, without, woken}
+use Rattle.calls.specs.Boards.{Board, without}
 use Rattle.calls.specs.Running.{premisesOf, afterTaken, afterStep}
 use Rattle.calls.specs.Trails.{Trail, guesses, guessAt}
 use Rattle.calls.specs.Searching.{NoGuess}

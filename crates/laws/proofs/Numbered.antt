@@ -1,18 +1,18 @@
 -- Elements of lists by their numbers, sets of numbers, and the constraints of a planned network.
-use mathlib.Core.Path.{_≡_, refl, sym, ap, subst, _∙_}
+use mathlib.Core.Path.{_≡_, refl, sym, ap, subst}
 use mathlib.Core.Bool.{Bool, true, false, cond, not, _&&_, _||_}
 use mathlib.Core.List.{List, [], _∷_}
-use mathlib.Core.Logic.{_⊎_, inl, inr, ⊎-elim}
-use Prim.Native.Nat.{ℕ, zero, suc, _+_, _<_, _≤_}
+use mathlib.Core.Logic.{_⊎_, ⊎-elim}
+use Prim.Native.Nat.{ℕ, zero, suc, _<_, _≤_}
 use native.Mathlib.Nat.{le-refl}
 use native.Mathlib.Omega.{arith}
-use lib.Dec.{eqb, ltb}
+use lib.Dec.{ltb}
 use lib.ListN.{length}
 use Rattle.std.specs.Finite.{nth}
 use Rattle.std.specs.declared.option.Option.{Option}
 use Rattle.std.specs.declared.option.Option.the-variants.{Some, None}
 use Rattle.std.specs.shelf.Lists.{All}
-use Rattle.std.proofs.shelf.Tests.{ltb-true, eqb-true, eq-eqb, or-cases, or-parts, or-left, or-right, cases-eq, cases-lt, and-parts, not-true, not-false}
+use Rattle.std.proofs.shelf.Tests.{ltb-true, eqb-true, or-cases, or-parts, or-left, or-right, cases-eq, cases-lt, and-parts, not-true}
 use Rattle.statements.proofs.Tests.{test-clash, test-cases, and-made}
 use Rattle.sets.specs.Members.{Members, inside, count}
 use Rattle.sets.proofs.Counts.{count-le}
@@ -20,7 +20,7 @@ use Rattle.plan.specs.Forms.{named}
 use Rattle.plan.specs.Known.{allBelow, ownerKnown, ranged, known, allKnown}
 use Rattle.plan.specs.Placements.{Placement, Premises, ownedBy, InForce, Satisfies, Meets}
 use Rattle.plan.specs.declared.constraint.Constraint.{Constraint}
-use Rattle.calls.specs.Networks.{Net, Planned, within, inForce}
+use Rattle.calls.specs.Networks.{Net, Planned, inForce}
 use Rattle.calls.specs.Boards.{anyBelow}
 
 -- ---- options and lists

@@ -1,24 +1,24 @@
 -- A run: what holds after it, its steps and their bound.
-use mathlib.Core.Path.{_≡_, refl, sym, ap, subst, _∙_}
-use mathlib.Core.Bool.{Bool, true, false}
-use mathlib.Core.List.{List, [], _∷_}
-use Prim.Native.Nat.{ℕ, zero, suc, _+_, _*_, _-_, _<_, _≤_}
+use mathlib.Core.Path.{_≡_, subst}
+use mathlib.Core.Bool.{true}
+use mathlib.Core.List.{[]}
+use Prim.Native.Nat.{ℕ, suc, _+_, _*_, _-_, _<_, _≤_}
 use native.Mathlib.Nat.{le-refl, le-trans}
 use native.Mathlib.Omega.{arith}
 use lib.ListN.{length}
 use Rattle.std.proofs.shelf.Tests.{ltb-true}
-use Rattle.facts.specs.Model.{Model}
+use Rattle.facts.specs.Model.{Model, Tells}
 use Rattle.facts.specs.Laws.{Laws}
 use Rattle.facts.specs.Derived.{none}
 use Rattle.facts.proofs.Order.{none-mono}
-use Rattle.plan.specs.Placements.{Placement, Placed, Premises}
-use Rattle.sets.specs.Members.{Members, Within, count}
-use Rattle.telling.specs.Reasons.{Tag, premise, guess, Among, premisesOnly}
-use Rattle.telling.specs.Tables.{Table, facts, tableSize}
+use Rattle.plan.specs.Placements.{Placed, Premises}
+use Rattle.sets.specs.Members.{Within, count}
+use Rattle.telling.specs.Reasons.{premise, guess, Among, premisesOnly}
+use Rattle.telling.specs.Tables.{facts, tableSize}
 use Rattle.telling.specs.Stable.{Stable}
 use Rattle.calls.specs.Networks.{Net, Planned, NoneMeets}
 use Rattle.calls.specs.Boards.{Board}
-use Rattle.calls.specs.Running.{Outcome, quiet, conflict, spent, premisesOf, afterStep, Steps, still, step, Run, clashes, rests, tires, steps}
+use Rattle.calls.specs.Running.{Outcome, afterStep, Steps, still, step, Run, clashes, rests, tires, steps}
 use Rattle.laws.specs.Promises.{OnQuiet, OnConflict, Stepped}
 use Rattle.laws.proofs.Calms.{calmed-stable}
 use Rattle.laws.proofs.Counts.{measure, afterStep-size, afterStep-falls}
@@ -37,7 +37,7 @@ module _ {F : Type 0} (m : Model F) (l : Laws m) (N : Net) (ok : Planned N) wher
   -- What is said of a run's answer, of the board that it leaves.
   pub record QuietBoard (force : Premises) (b : Board F) : Type 0 where
     pub stable : Stable m (N .constraints) force (facts (b .table))
-    pub least : (φ : ℕ → F) → Stable m (N .constraints) force φ → (x : ℕ) → Rattle.facts.specs.Model.Tells m (φ x) (b .table x .fact)
+    pub least : (φ : ℕ → F) → Stable m (N .constraints) force φ → (x : ℕ) → Tells m (φ x) (b .table x .fact)
 
   pub record ConflictBoard (force : Premises) (r : Premises) : Type 0 where
     pub none-meet : NoneMeets Placed N r

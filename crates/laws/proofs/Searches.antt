@@ -1,10 +1,7 @@
 -- A move and a seek: what holds after them, and what they answer.
-use mathlib.Core.Path.{_≡_, refl, sym, ap, subst, _∙_}
-use mathlib.Core.Bool.{Bool, true, false}
-use mathlib.Core.List.{List, [], _∷_}
-use Prim.Native.Nat.{ℕ, zero, suc, _<_, _≤_}
+use mathlib.Core.List.{List}
+use Prim.Native.Nat.{ℕ, _<_}
 use Rattle.std.specs.Finite.{nth}
-use Rattle.std.specs.declared.option.Option.the-variants.{Some}
 use Rattle.std.specs.shelf.Lists.{All}
 use Rattle.std.proofs.shelf.Elements.{all-weaker}
 use Rattle.facts.specs.Model.{Model}
@@ -12,18 +9,17 @@ use Rattle.facts.specs.Laws.{Laws, Exact}
 use Rattle.facts.specs.Derived.{low}
 use Rattle.facts.proofs.Order.{low-in}
 use Rattle.plan.specs.Forms.{named}
-use Rattle.plan.specs.Placements.{Placement, Placed, Premises, Meets}
+use Rattle.plan.specs.Placements.{Placed, Premises, Meets}
 use Rattle.sets.specs.Members.{Within}
-use Rattle.telling.specs.Reasons.{Reasons}
-use Rattle.telling.specs.Tables.{Table, facts, bare}
+use Rattle.telling.specs.Tables.{facts, bare}
 use Rattle.telling.specs.Stable.{One}
 use Rattle.telling.proofs.Fires.{fired-calm}
 use Rattle.telling.proofs.Settles.{settles-right}
 use Rattle.calls.specs.Networks.{Net, Planned, NoneMeets}
 use Rattle.calls.specs.Boards.{Board}
-use Rattle.calls.specs.Running.{premisesOf, Clean, afterStep, afterTaken}
-use Rattle.calls.specs.Trails.{words}
-use Rattle.calls.specs.Searching.{Search, Verdict, dead, moved, settled, cramped, Finding, found, none-left, full, spent, Move, dies, jumps, steps, settles, crowds, guesses-at, Moves, still, move, Seek, fails, finds, fills, tires, moves}
+use Rattle.calls.specs.Running.{premisesOf, afterStep, afterTaken}
+use Rattle.calls.specs.Trails.{Word, words}
+use Rattle.calls.specs.Searching.{Search, Verdict, dead, moved, settled, cramped, Finding, Move, dies, jumps, steps, settles, crowds, guesses-at, Moves, still, move, Seek, fails, finds, fills, tires, moves}
 use Rattle.laws.specs.Promises.{OnFound, OnNone}
 use Rattle.laws.specs.Inside.{IsTold}
 use Rattle.laws.proofs.Numbered.{named-below, inForce-made, meets-from}
@@ -52,7 +48,7 @@ module _ {F : Type 0} (m : Model F) (l : Laws m) (N : Net) (ok : Planned N) (for
   RightVerdict q settled = Met q
   RightVerdict q cramped = Unit {0}
 
-  step-told : (j : ℕ) (b : Board F) → (ws : List Rattle.calls.specs.Trails.Word) → All (IsTold m N (b .table)) ws → All (IsTold m N (afterStep m N force j b .table)) ws
+  step-told : (j : ℕ) (b : Board F) → (ws : List Word) → All (IsTold m N (b .table)) ws → All (IsTold m N (afterStep m N force j b .table)) ws
   unfolding afterStep
   step-told j b ws h =
       let T′ = afterTaken m N force (nth (N .constraints) j) (b .table) in

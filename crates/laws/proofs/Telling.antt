@@ -1,28 +1,24 @@
 -- Telling what the entries of a trail say.
-use mathlib.Core.Path.{_≡_, refl, sym, ap, subst, _∙_}
-use mathlib.Core.Bool.{Bool, true, false, cond}
-use mathlib.Core.List.{List, [], _∷_, _++_}
-use Prim.Native.Nat.{ℕ, zero, suc, _<_, _≤_}
+use mathlib.Core.Path.{_≡_, refl, sym, subst, _∙_}
+use mathlib.Core.Bool.{true}
+use mathlib.Core.List.{List, [], _∷_}
+use Prim.Native.Nat.{ℕ, suc, _<_, _≤_}
 use native.Mathlib.Omega.{arith}
 use lib.Dec.{eqb}
-use lib.IntN.{ℤ}
-use Rattle.std.specs.declared.option.Option.the-variants.{Some, None}
+use Rattle.std.specs.declared.option.Option.the-variants.{Some}
 use Rattle.std.specs.shelf.Lists.{All}
-use Rattle.std.proofs.shelf.Elements.{all-weaker, all-push}
+use Rattle.std.proofs.shelf.Elements.{all-push}
 use Rattle.std.proofs.shelf.Tests.{cond-both, cond-true, eqb-true, eq-eqb, lt-ltb}
 use Rattle.statements.specs.Numbers.{top, bottom}
-use Rattle.statements.specs.Statements.{allowed}
-use Rattle.statements.specs.declared.statement.Statement.the-variants.{Between}
 use Rattle.statements.proofs.Tests.{test-clash, and-made}
 use Rattle.facts.specs.Model.{Model, Tells}
 use Rattle.facts.specs.Laws.{Laws}
-use Rattle.facts.specs.Derived.{none, told}
+use Rattle.facts.specs.Derived.{none}
 use Rattle.facts.proofs.Order.{tells-trans, between-allows, start-allows}
 use Rattle.facts.proofs.TidyLaws.{tidy-allows, told-allows}
 use Rattle.plan.specs.Placements.{Placement, Placed, Premises}
-use Rattle.telling.specs.Reasons.{Tag, premise, guess, Reasons, Among}
+use Rattle.telling.specs.Reasons.{premise, guess, Among}
 use Rattle.telling.specs.Tables.{Table, facts}
-use Rattle.telling.specs.Telling.{afterTold}
 use Rattle.telling.proofs.Cover.{Cover, afterTold-sound}
 use Rattle.telling.proofs.Fires.{Below, below-refl, below-trans, afterTold-below, afterTold-fact}
 use Rattle.telling.proofs.Fits.{Fits, afterTold-fits}
@@ -33,7 +29,7 @@ use Rattle.calls.specs.Trails.{Entry, guessed, forced, Trail, guesses, guessAt,
 use Rattle.calls.specs.Searching.{afterWord, afterWords}
 use Rattle.laws.specs.Inside.{IsTold}
 use Rattle.laws.proofs.Live.{atHand, MeetsGuess, MeetsReasons, Lying}
-use Rattle.laws.proofs.Trails.{Sub, sub-refl, sub-tail, at-hand-sub, at-hand-opened, meets-shorter, meets-among, Sure, TrueEntry, TrueTrail}
+use Rattle.laws.proofs.Trails.{Sub, sub-tail, at-hand-sub, at-hand-opened, meets-shorter, meets-among, TrueEntry, TrueTrail}
 
 module _ {F : Type 0} (m : Model F) (l : Laws m) (N : Net) where
   -- ---- what is told

@@ -1,8 +1,8 @@
 -- The trail: what a guess number means, what a jump makes of it, and that its forced entries are true.
 use mathlib.Core.Path.{_≡_, refl, sym, ap, subst, _∙_}
-use mathlib.Core.Bool.{Bool, true, false, cond}
-use mathlib.Core.List.{List, [], _∷_, _++_}
-use Prim.Native.Nat.{ℕ, zero, suc, _<_, _≤_}
+use mathlib.Core.Bool.{true}
+use mathlib.Core.List.{[], _∷_}
+use Prim.Native.Nat.{ℕ, suc, _<_, _≤_}
 use native.Mathlib.Nat.{le-refl}
 use native.Mathlib.Omega.{arith}
 use lib.Dec.{eqb}
@@ -11,10 +11,10 @@ use lib.ListN.{length}
 use lib.Signed.{_≤ℤ_}
 use Rattle.std.specs.declared.option.Option.{Option}
 use Rattle.std.specs.declared.option.Option.the-variants.{Some, None}
-use Rattle.std.proofs.shelf.Tests.{cond-both, cond-true, cond-false, eqb-true, ne-eqb, eq-eqb, ltb-true, lt-ltb}
-use Rattle.statements.proofs.Tests.{test-clash, test-cases}
+use Rattle.std.proofs.shelf.Tests.{cond-both, cond-true, cond-false, eqb-true, ne-eqb, ltb-true, lt-ltb}
+use Rattle.statements.proofs.Tests.{test-cases}
 use Rattle.plan.specs.Placements.{Placement, Premises}
-use Rattle.telling.specs.Reasons.{Tag, premise, guess, Reasons, Among}
+use Rattle.telling.specs.Reasons.{premise, guess, Reasons, Among}
 use Rattle.calls.specs.Networks.{Net}
 use Rattle.calls.specs.Running.{premisesOf}
 use Rattle.calls.specs.Trails.{Entry, guessed, forced, Trail, guesses, guessAt, before, forcing}

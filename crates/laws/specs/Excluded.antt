@@ -1,24 +1,24 @@
 -- What no network does: wrong behaviour that the definitions exclude.
 use mathlib.Core.Path.{_≡_}
-use mathlib.Core.Bool.{Bool, true, false}
+use mathlib.Core.Bool.{true, false}
 use mathlib.Core.List.{List}
 use Prim.Native.Nat.{ℕ, _<_, _≤_}
 use Rattle.std.specs.Finite.{nth}
 use Rattle.std.specs.declared.option.Option.the-variants.{Some}
 use Rattle.facts.specs.Model.{Model}
-use Rattle.plan.specs.Placements.{Placement, Placed, Premises, ownedBy, Meets}
+use Rattle.plan.specs.Placements.{Placed, Premises, ownedBy}
 use Rattle.plan.specs.declared.constraint.Constraint.{Constraint}
 use Rattle.telling.specs.Reasons.{premise}
-use Rattle.telling.specs.Tables.{Table, facts, upd}
+use Rattle.telling.specs.Tables.{facts, upd}
 use Rattle.telling.specs.Stable.{Tidy}
-use Rattle.calls.specs.Networks.{Net, Planned, within, NoneMeets}
+use Rattle.calls.specs.Networks.{Net, within, NoneMeets}
 use Rattle.calls.specs.Boards.{Board}
 use Rattle.calls.specs.Running.{Outcome, afterStep, Run}
 use Rattle.calls.specs.Searching.{Search, Finding, Seek}
 use Rattle.calls.specs.States.{State}
 use Rattle.calls.specs.Refusals.{bring, kept-conflict, refusal}
 use Rattle.calls.specs.Histories.{Event}
-use Rattle.laws.specs.Promises.{OnRun, OnConflict, OnSeek, OnNone, OverHistories}
+use Rattle.laws.specs.Promises.{OnRun, OnConflict, OnSeek, OnNone}
 
 -- No reasons that name all premises in force: a step brings no premise into the reasons but one that owns the constraint.
 abbrev pub OwnReasonsOnly : {F : Type 0} → Model F → Type 0

@@ -1,10 +1,9 @@
 -- What is promised over every history of calls, for every lawful kind and every lawful agenda.
 use mathlib.Core.Path.{_≡_}
-use mathlib.Core.Bool.{Bool, true}
+use mathlib.Core.Bool.{true}
 use mathlib.Core.List.{List, [], _∷_}
 use mathlib.Core.Logic.{_⊎_}
 use Prim.Native.Nat.{ℕ, _+_, _*_, _<_, _≤_}
-use lib.IntN.{ℤ}
 use lib.ListN.{length}
 use Rattle.std.specs.Finite.{nth}
 use Rattle.std.specs.declared.option.Option.the-variants.{Some, None}
@@ -13,13 +12,13 @@ use Rattle.facts.specs.Model.{Model}
 use Rattle.facts.specs.Derived.{low, none}
 use Rattle.plan.specs.Placements.{Placement, Placed, Premises, InForce, Meets}
 use Rattle.plan.specs.declared.constraint.Constraint.{Constraint}
-use Rattle.telling.specs.Tables.{Table, facts, tableSize}
+use Rattle.telling.specs.Tables.{facts, tableSize}
 use Rattle.telling.specs.Stable.{Stable, Above}
 use Rattle.calls.specs.Networks.{Net, Planned, NoneMeets}
 use Rattle.calls.specs.Boards.{Board}
 use Rattle.calls.specs.Running.{Outcome, quiet, conflict, spent, Steps}
 use Rattle.calls.specs.Trails.{Trail}
-use Rattle.calls.specs.Searching.{Search, Finding, found, none-left, full, spent as tired, Moves}
+use Rattle.calls.specs.Searching.{Finding, found, none-left, full, spent as tired, Moves}
 use Rattle.calls.specs.States.{State}
 use Rattle.calls.specs.Calls.{Answer, refused, done, lifted, ran, shown, listed, sought, finished}
 use Rattle.calls.specs.Histories.{Event, History}

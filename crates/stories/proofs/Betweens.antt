@@ -1,18 +1,17 @@
 -- In an exact kind: what a fact of one Between becomes when told another.
-use mathlib.Core.Path.{_≡_, refl, sym, ap, ap₂, subst, _∙_}
-use mathlib.Core.Bool.{Bool, true, false, cond, _&&_}
+use mathlib.Core.Path.{_≡_, refl, sym, ap₂, subst, _∙_}
+use mathlib.Core.Bool.{true, false}
 use native.Mathlib.Omega.{arith}
-use lib.IntN.{ℤ, pos}
-use lib.Signed.{_≤ℤ_, _<ℤ_}
+use lib.IntN.{ℤ}
+use lib.Signed.{_≤ℤ_}
 use Rattle.std.proofs.shelf.Signed.{ints, clamps}
 use Rattle.std.proofs.shelf.Tests.{and-parts}
-use Rattle.statements.specs.Between.{between}
 use Rattle.statements.specs.Numbers.{top, bottom, InU, raised, lowered}
 use Rattle.statements.specs.declared.statement.Statement.the-variants.{Between}
-use Rattle.statements.proofs.Tests.{test-clash, test-cases, test-no, and-made, inside-made, inside-of}
-use Rattle.facts.specs.Model.{Model, Tells}
+use Rattle.statements.proofs.Tests.{test-cases, test-no, and-made, inside-made, inside-of}
+use Rattle.facts.specs.Model.{Model}
 use Rattle.facts.specs.Laws.{Laws, Exact}
-use Rattle.facts.specs.Derived.{low, high, none, tidy, start, dead, told}
+use Rattle.facts.specs.Derived.{low, high, none, tidy, dead, told}
 use Rattle.facts.proofs.Order.{low-le, high-ge, none-no, low-allowed, high-allowed, low-none, high-none, meet-least, between-mono, dead-tells}
 
 module _ {F : Type 0} (m : Model F) (l : Laws m) (exact : Exact m) where

@@ -1,11 +1,10 @@
 -- The cells of the two histories, and what firing makes of each.
-use mathlib.Core.Path.{_≡_, refl, sym, ap, ap₂, subst, _∙_}
-use mathlib.Core.Bool.{Bool, true, false, cond}
+use mathlib.Core.Path.{_≡_, refl, sym, ap, ap₂, _∙_}
+use mathlib.Core.Bool.{Bool, true, false}
 use Prim.Native.Nat.{ℕ}
 use native.Mathlib.Omega.{arith}
 use lib.IntN.{ℤ, pos, _+ℤ_, _-ℤ_}
 use lib.Signed.{_≤ℤ_, _<ℤ_, ltZ}
-use Rattle.std.specs.declared.option.Option.the-variants.{Some}
 use Rattle.std.proofs.shelf.Signed.{ints}
 use Rattle.statements.specs.Numbers.{top, bottom, InU}
 use Rattle.statements.specs.Statements.{allowed}
@@ -17,7 +16,7 @@ use Rattle.facts.specs.Model.{Model}
 use Rattle.facts.specs.Laws.{Laws, Exact}
 use Rattle.facts.specs.Derived.{low, high, none, tidy, start, dead, told}
 use Rattle.forms.specs.Tells.{up, down}
-use Rattle.telling.specs.Reasons.{Reasons, noReasons, together}
+use Rattle.telling.specs.Reasons.{together}
 use Rattle.telling.specs.Tables.{Cell, Table, startCell}
 use Rattle.telling.specs.Telling.{toldCell}
 use Rattle.telling.specs.Firing.{fired}

@@ -1,10 +1,10 @@
 -- A history whose search ends in none.
 use mathlib.Core.Path.{_≡_, refl, sym, ap, ap₂, subst, _∙_, fun-ext}
-use mathlib.Core.Bool.{Bool, true, false, cond, not, _&&_, _||_}
-use mathlib.Core.List.{List, [], _∷_}
-use Prim.Native.Nat.{ℕ, zero, suc, _+_, _<_}
+use mathlib.Core.Bool.{Bool, true, false, cond, not, _||_}
+use mathlib.Core.List.{[]}
+use Prim.Native.Nat.{ℕ, _+_}
 use native.Mathlib.Omega.{arith}
-use lib.Dec.{eqb, ltb, leb}
+use lib.Dec.{eqb}
 use lib.IntN.{ℤ, pos, _+ℤ_}
 use Rattle.std.specs.declared.option.Option.the-variants.{Some, None}
 use Rattle.std.proofs.shelf.Tests.{cond-true, cond-false}
@@ -12,7 +12,7 @@ use Rattle.statements.specs.Numbers.{top}
 use Rattle.statements.specs.declared.statement.Statement.the-variants.{Between}
 use Rattle.facts.specs.Model.{Model}
 use Rattle.facts.specs.Laws.{Laws, Exact}
-use Rattle.facts.specs.Derived.{low, none, dead}
+use Rattle.facts.specs.Derived.{low, none}
 use Rattle.plan.specs.Placements.{Premises}
 use Rattle.sets.specs.Members.{Members, inside}
 use Rattle.telling.specs.Reasons.{Reasons, premise, guess}
@@ -27,10 +27,10 @@ use Rattle.calls.specs.Keeping.{keep}
 use Rattle.calls.specs.States.{State}
 use Rattle.calls.specs.Refusals.{clear, bring, run, begin, seek, refusal}
 use Rattle.calls.specs.Calls.{done, ran, sought, clearBoard, bringBoard, clears, brings, runs, begins, seeks}
-use Rattle.calls.specs.Histories.{Event, History, made, calls}
-use Rattle.stories.specs.Stories.{low-one, off-itself, high-one, net, pair, Failing}
+use Rattle.calls.specs.Histories.{made, calls}
+use Rattle.stories.specs.Stories.{low-one, off-itself, net, pair, Failing}
 use Rattle.stories.proofs.Betweens.{dead-none, equal-yes}
-use Rattle.stories.proofs.Steps.{three, next, woken-next, Stands, step-fires}
+use Rattle.stories.proofs.Steps.{three, woken-next, Stands, step-fires}
 use Rattle.stories.proofs.Cells.{zero-one, narrowed, tried, refuted, turned, pinned, ended, start-live, zero-one-live, just-zero-live, from-one-live, just-one-live, start-changed, refuted-changed, turned-changed, pinned-changed, ended-changed, start-narrows, narrowed-stays, narrowed-rests, tried-clashes, turned-narrows, pinned-clashes, start-turned, zero-one-wide}
 use Rattle.stories.proofs.Opening.{made-state, made-right, clear-stands, bring-stands, begin-granted, waits-at, nobody-at, clean-cell, lowest-cell, wide-cell, guess-stands}
 

@@ -1,31 +1,30 @@
 -- A history with a conflict, a lift, a quiet run and a search that finds.
-use mathlib.Core.Path.{_≡_, refl, sym, ap, ap₂, subst, _∙_, fun-ext}
-use mathlib.Core.Bool.{Bool, true, false, cond, not, _&&_, _||_}
-use mathlib.Core.List.{List, [], _∷_}
-use Prim.Native.Nat.{ℕ, zero, suc, _+_, _<_}
+use mathlib.Core.Path.{_≡_, refl, ap, subst, _∙_, fun-ext}
+use mathlib.Core.Bool.{Bool, true, false, cond, not, _||_}
+use mathlib.Core.List.{List, []}
+use Prim.Native.Nat.{_+_}
 use native.Mathlib.Omega.{arith}
-use lib.Dec.{eqb, ltb}
+use lib.Dec.{eqb}
 use Rattle.std.specs.declared.option.Option.the-variants.{Some, None}
 use Rattle.std.proofs.shelf.Tests.{cond-true}
 use Rattle.facts.specs.Model.{Model}
 use Rattle.facts.specs.Laws.{Laws, Exact}
-use Rattle.facts.specs.Derived.{none, dead}
 use Rattle.plan.specs.Placements.{Premises}
-use Rattle.sets.specs.Members.{Members, inside, count}
+use Rattle.sets.specs.Members.{inside, count}
 use Rattle.telling.specs.Reasons.{premise}
-use Rattle.telling.specs.Tables.{Cell, Table, upd, startCell}
+use Rattle.telling.specs.Tables.{Cell, upd, startCell}
 use Rattle.calls.specs.Networks.{inForce}
-use Rattle.calls.specs.Boards.{Board, woken, reset}
+use Rattle.calls.specs.Boards.{Board, woken}
 use Rattle.calls.specs.Running.{quiet, conflict, premisesOf, afterStep, Run, clashes, rests, steps}
 use Rattle.calls.specs.Searching.{Search, found, afterGuess, Seek, moves, finds, guesses-at, settles, steps as takes}
 use Rattle.calls.specs.Keeping.{keep}
 use Rattle.calls.specs.States.{State}
 use Rattle.calls.specs.Refusals.{clear, bring, lift, run, begin, seek, finish, refusal}
 use Rattle.calls.specs.Calls.{done, lifted, ran, sought, finished, clearBoard, bringBoard, resting, liftBoard, Does, clears, brings, lifts, runs, begins, seeks, finishes}
-use Rattle.calls.specs.Histories.{Event, History, made, calls}
-use Rattle.stories.specs.Stories.{low-one, off-itself, high-one, net, pair, Told, Finding}
+use Rattle.calls.specs.Histories.{made, calls}
+use Rattle.stories.specs.Stories.{low-one, high-one, net, pair, Finding}
 use Rattle.stories.proofs.Betweens.{dead-none, equal-yes}
-use Rattle.stories.proofs.Steps.{three, next, woken-next, Stands, step-fires, step-idles}
+use Rattle.stories.proofs.Steps.{three, woken-next, Stands, step-fires, step-idles}
 use Rattle.stories.proofs.Cells.{zero-one, narrowed, clashed, tried, start-live, zero-one-live, just-zero-live, just-zero, start-changed, narrowed-changed, start-narrows, narrowed-stays, narrowed-clashes, tried-stays, zero-one-wide, just-zero-one}
 use Rattle.stories.proofs.Opening.{made-state, made-right, clear-stands, bring-stands, begin-granted, waits-at, nobody-at, clean-cell, lowest-cell, wide-cell, one-cell, guess-stands}
 

@@ -1,15 +1,13 @@
 -- What both histories share: clear, bring, begin and the guess, and tests on the cell.
 use mathlib.Core.Path.{_≡_, refl, sym, ap, ap₂, subst, _∙_, fun-ext}
-use mathlib.Core.Bool.{Bool, true, false, cond, not, _&&_, _||_}
-use mathlib.Core.List.{List, [], _∷_}
+use mathlib.Core.Bool.{Bool, true, false, not, _||_}
+use mathlib.Core.List.{List, []}
 use Prim.Native.Nat.{ℕ, zero, suc, _<_}
 use native.Mathlib.Omega.{arith}
 use lib.Dec.{eqb, ltb}
-use lib.IntN.{ℤ}
 use lib.Signed.{_<ℤ_}
 use Rattle.std.specs.Finite.{nth}
-use Rattle.std.specs.declared.option.Option.{Option}
-use Rattle.std.specs.declared.option.Option.the-variants.{Some, None}
+use Rattle.std.specs.declared.option.Option.the-variants.{None}
 use Rattle.std.proofs.shelf.Tests.{ltb-true, cond-false, or-from}
 use Rattle.statements.specs.Numbers.{bottom}
 use Rattle.statements.specs.declared.statement.Statement.the-variants.{Between}
@@ -19,22 +17,21 @@ use Rattle.facts.specs.Derived.{low, high, none, dead}
 use Rattle.plan.specs.Placements.{Premises}
 use Rattle.sets.specs.Members.{Members, Nobody, inside}
 use Rattle.telling.specs.Reasons.{everyReason}
-use Rattle.telling.specs.Tables.{Cell, Table, upd, facts, startCell, changed}
+use Rattle.telling.specs.Tables.{Cell, facts, startCell, changed}
 use Rattle.telling.specs.Telling.{toldCell, afterTold}
 use Rattle.telling.specs.Stable.{One}
 use Rattle.calls.specs.Networks.{inForce}
 use Rattle.calls.specs.Boards.{Board, anyBelow, woken}
 use Rattle.calls.specs.Running.{Clean, Lowest}
-use Rattle.calls.specs.Trails.{Trail, guessed, isGuess}
-use Rattle.calls.specs.Searching.{Search, afterGuess, Wide}
+use Rattle.calls.specs.Trails.{isGuess}
+use Rattle.calls.specs.Searching.{afterGuess, Wide}
 use Rattle.calls.specs.States.{State}
-use Rattle.calls.specs.Refusals.{begin, bring, clear, refusal}
-use Rattle.calls.specs.Calls.{standing, belongs, clearBoard, bringBoard, Does, clears, brings, begins}
-use Rattle.calls.specs.Calls.{done}
-use Rattle.calls.specs.Histories.{Event, History, Made, made, calls}
-use Rattle.stories.specs.Stories.{low-one, off-itself, high-one, net}
+use Rattle.calls.specs.Refusals.{begin, refusal}
+use Rattle.calls.specs.Calls.{standing, belongs, clearBoard, bringBoard}
+use Rattle.calls.specs.Histories.{Made}
+use Rattle.stories.specs.Stories.{net}
 use Rattle.stories.proofs.Steps.{three, three-nobody, next, woken-next, Stands, clean-at}
-use Rattle.stories.proofs.Cells.{narrowed, tried, zero-one, narrowed-tried, tried-changed}
+use Rattle.stories.proofs.Cells.{narrowed, tried, narrowed-tried, tried-changed}
 
 anyBelow-none : (n : ℕ) (s : Members) → Nobody s → anyBelow n s ≡ false
 unfolding anyBelow

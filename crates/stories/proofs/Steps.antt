@@ -2,14 +2,14 @@
 use mathlib.Core.Path.{_≡_, refl, sym, ap, ap₂, subst, _∙_, fun-ext}
 use mathlib.Core.Bool.{Bool, true, false, cond, not, _&&_, _||_}
 use mathlib.Core.List.{List, [], _∷_}
-use Prim.Native.Nat.{ℕ, zero, suc, _<_}
+use Prim.Native.Nat.{ℕ, zero, suc}
 use native.Mathlib.Omega.{arith}
 use lib.Dec.{eqb}
 use lib.IntN.{ℤ, pos, _+ℤ_}
 use lib.Signed.{ltZ}
 use Rattle.std.specs.Finite.{nth}
 use Rattle.std.specs.declared.option.Option.{Option}
-use Rattle.std.specs.declared.option.Option.the-variants.{Some, None}
+use Rattle.std.specs.declared.option.Option.the-variants.{Some}
 use Rattle.std.specs.shelf.Lists.{All}
 use Rattle.std.proofs.shelf.Tests.{cond-both, cond-true, cond-false, or-from, and-right}
 use Rattle.statements.specs.Numbers.{top}
@@ -17,19 +17,18 @@ use Rattle.statements.specs.declared.statement.Statement.the-variants.{Between}
 use Rattle.facts.specs.Model.{Model}
 use Rattle.facts.specs.Laws.{Laws}
 use Rattle.facts.specs.Derived.{low, high, none, tidy, told}
-use Rattle.plan.specs.Forms.{named}
 use Rattle.plan.specs.Placements.{Premises, ownedBy}
 use Rattle.plan.specs.declared.constraint.Constraint.{Constraint}
-use Rattle.plan.specs.declared.constraint.Form.the-variants.{State, Apart}
+use Rattle.plan.specs.declared.constraint.Form.the-variants.{State}
 use Rattle.forms.specs.Tells.{tells, up, down}
 use Rattle.forms.specs.declared.tell.Tell.{Tell}
 use Rattle.sets.specs.Members.{Members, Nobody}
 use Rattle.telling.specs.Reasons.{Reasons, noReasons, together, premisesOnly}
-use Rattle.telling.specs.Tables.{Cell, Table, upd, facts, any, changed}
+use Rattle.telling.specs.Tables.{Cell, Table, facts, any, changed}
 use Rattle.telling.specs.Telling.{isMade, toldCell, afterTold, afterTell}
-use Rattle.telling.specs.Firing.{afterTells, inConflict, fired}
+use Rattle.telling.specs.Firing.{afterTells, fired}
 use Rattle.calls.specs.Networks.{inForce}
-use Rattle.calls.specs.Boards.{Board, without, concerns, woken}
+use Rattle.calls.specs.Boards.{Board, without, woken}
 use Rattle.calls.specs.Running.{Clean, afterTaken, afterStep}
 use Rattle.stories.specs.Stories.{low-one, off-itself, high-one, net}
 

@@ -1,10 +1,10 @@
 -- Two histories over a small network: one with a conflict, a lift, a quiet run and a search that finds; and one whose search ends in none.
 use mathlib.Core.Path.{_≡_}
-use mathlib.Core.Bool.{Bool, true, false, _||_}
+use mathlib.Core.Bool.{_||_}
 use mathlib.Core.List.{List, [], _∷_, map}
 use Prim.Native.Nat.{ℕ}
 use lib.Dec.{eqb}
-use lib.IntN.{ℤ, pos}
+use lib.IntN.{pos}
 use Rattle.std.specs.declared.option.Option.the-variants.{Some}
 use Rattle.statements.specs.declared.statement.Statement.the-variants.{Between}
 use Rattle.facts.specs.Model.{Model}
