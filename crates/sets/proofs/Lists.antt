@@ -1,5 +1,5 @@
 -- The elements of a list as a set, and the members of a set as a list.
-use Rattle.std.proofs.Common.{◌≡◌, ℕ, zero, suc, ◌+◌, ◌<◌, ◌≤◌, Bool, true, false, cond, ◌&&◌, ◌||◌, eqb, ltb, List, [], ◌∷◌, ◌++◌, length, get_or, sym, refl, ap, ◌∙◌, ⊎_elim, append-nil, add_one, arith, length-append}
+use Rattle.std.proofs.Common.{◌≡◌, ℕ, zero, suc, ◌+◌, ◌<◌, ◌≤◌, Bool, true, false, cond, ◌&&◌, ◌||◌, eqb, ltb, List, [], ◌∷◌, ◌++◌, length, get_or, sym, refl, ap, ◌∙◌, ⊎_elim, append-nil, add-one, arith, length-append}
 use mathlib.Core.Bool.{and-true, and-false, or-false}
 use Rattle.std.proofs.lemmas.Bool.{cases_eq, cases_lt, eq-eqb, ne_eqb, lt-ltb, le-ltb, or_left, or_right}
 use Rattle.sets.specs.Members.{Members, among, listed}
@@ -35,7 +35,7 @@ listed_none s = refl
 -- The next number is listed if it is a member.
 pub listed_more : (s : Members) (n : ℕ) → listed s (n + 1) ≡ listed s n ++ cond (s n) (n ∷ []) []
 unfolding listed
-listed_more s n = rw add_one
+listed_more s n = rw add-one
 
 among_more : (j n : ℕ) (xs : List ℕ) (b : Bool) → among j (xs ++ cond b (n ∷ []) []) ≡ ((eqb j n && b) || among j xs)
 among_more j n xs true = among_push j n xs ∙ ap (λ b. b || among j xs) (sym (and-true (eqb j n)))

@@ -1,5 +1,5 @@
 -- The least and the greatest number of an Aligned.
-use Rattle.std.proofs.Common.{◌≡◌, ◌^◌, ◌<◌, true, false, eqb, ℤ, pos, ◌+ℤ◌, ◌-ℤ◌, ◌≤ℤ◌, ◌<ℤ◌, Some, None, subst, arith, pow_pos}
+use Rattle.std.proofs.Common.{◌≡◌, ◌^◌, true, false, eqb, ℤ, pos, ◌+ℤ◌, ◌-ℤ◌, ◌≤ℤ◌, ◌<ℤ◌, Some, None, subst, arith, pow_pos}
 use Rattle.std.proofs.lemmas.Int.{ints, clamps, by_lt_z}
 use Rattle.std.proofs.lemmas.Bool.{eqb-true, eq-eqb}
 use Rattle.statements.specs.Numbers.{top, bottom, inside, InU, Within, raised, lowered}

@@ -3,8 +3,8 @@ use Rattle.std.proofs.Common.{replicate, refl}
 use Rattle.sets.proofs.Eight.{marks_none, fit_none, none_held}
 use Rattle.sets.proofs.wide.Set512.none.Goals as goal
 
-pub invariant-of-result : goal.invariant-of-result
-invariant-of-result c = (marks_none, (fit_none, tt))
+pub invariant_of-result : goal.invariant_of-result
+invariant_of-result c = (marks_none, (fit_none, tt))
 
 pub returns : goal.returns
 returns c = none_held 0 (replicate 8 0) marks_none refl

@@ -14,5 +14,5 @@ returns-else-v-ge-BOTTOM c =
     let small = pow_mono c.args.self.fine in
     aligned_no_greatest c.args.self c.args.n c.lowered-to.result _ c.rest.result (c.lowered-to.result -ℤ c.rest.result) (omega (arith, ints, clamps)) (omega (arith, ints, clamps)) c.rest.ensures.is (omega (arith, ints, clamps)) (omega (arith, ints, clamps))
 
-pub overflow-sub-v : goal.overflow-sub-v
-overflow-sub-v c = omega (arith, ints, clamps)
+pub overflow_sub-v : goal.overflow_sub-v
+overflow_sub-v c = omega (arith, ints, clamps)

@@ -13,5 +13,5 @@ returns c =
     let shl = one_shl k 64 (omega arith) in
     let small = pow_mono c.args.self.fine in
     let below = rest_below (2 ^ k) c.args.z (pow_pos k) in
-    let is : c.rem-euclid.result ≡ pos (rest (2 ^ k) c.args.z) = c.rem-euclid.ensures.value ∙ ap₂ int_rem_euclid (omega (arith, ints)) (omega (arith, ints)) ∙ rest_euclid (2 ^ k) c.args.z in
+    let is : c.rem_euclid.result ≡ pos (rest (2 ^ k) c.args.z) = c.rem_euclid.ensures.value ∙ ap₂ int_rem_euclid (omega (arith, ints)) (omega (arith, ints)) ∙ rest_euclid (2 ^ k) c.args.z in
     record { is = omega (arith, ints); small = (omega (arith, ints), omega (arith, ints)) }
