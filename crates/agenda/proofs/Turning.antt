@@ -1,5 +1,5 @@
 -- A ring of 512 places as a list: its two ends, and a write behind its last item.
-use Rattle.std.proofs.Common.{◌≡◌, ℕ, zero, suc, ◌+◌, ◌-◌, ◌%◌, ◌<◌, List, [], ◌∷◌, ◌++◌, length, get_or, set, sym, refl, ap, ◌∙◌, add_one, arith, get_or-set_other, get_or-set_same}
+use Rattle.std.proofs.Common.{◌≡◌, ℕ, zero, suc, ◌+◌, ◌-◌, ◌%◌, ◌<◌, List, [], ◌∷◌, ◌++◌, length, get_or, set, sym, refl, ap, ◌∙◌, add-one, arith, get_or-set_other, get_or-set_same}
 use Rattle.agenda.specs.Orders.{in_order}
 
 -- The first item of a ring stands at its head.
@@ -42,7 +42,7 @@ order_other items p v head (suc n) h =
 pub order_push : (items : List ℕ) (head n v : ℕ) → length items ≡ 512 → n < 512 → in_order (set items ((head + n) % 512) v) head (n + 1) ≡ in_order items head n ++ (v ∷ [])
 order_push items head n v len l =
     let p = (head + n) % 512 in
-    ap (in_order (set items p v) head) (add_one n) ∙ order_last (set items p v) head n
+    ap (in_order (set items p v) head) (add-one n) ∙ order_last (set items p v) head n
     ∙ ap (λ x. in_order (set items p v) head n ++ (x ∷ [])) (get_or-set_same items p v 0 (omega arith))
     ∙ ap (λ r. r ++ (v ∷ [])) (order_other items p v head n (λ i q e. omega arith))
 

@@ -1,5 +1,5 @@
 -- A list gone through by its places, and the first of a list.
-use Rattle.std.proofs.Common.{◌≡◌, ℕ, zero, suc, ◌+◌, ◌<◌, ◌≤◌, List, [], ◌∷◌, length, get_or, take, drop, Some, None, refl, ap, subst, add_one, arith}
+use Rattle.std.proofs.Common.{◌≡◌, ℕ, zero, suc, ◌+◌, ◌<◌, ◌≤◌, List, [], ◌∷◌, length, get_or, take, drop, Some, None, refl, ap, subst, add-one, arith}
 use Rattle.std.specs.List.{slice_get, AllByRecursion as All}
 
 -- ---- a walk
@@ -10,7 +10,7 @@ some-drop (y ∷ ys) zero x e = ap (λ h. h ∷ ys) (let z : y ≡ x = cc in z)
 some-drop (y ∷ ys) (suc i) x e = some-drop ys i x e
 
 pub drop_here : {A : Type 0} (xs : List A) (i : ℕ) (x : A) → Some x ≡ slice_get xs i → drop i xs ≡ x ∷ drop (i + 1) xs
-drop_here xs i x e = rw add_one (some-drop xs i x e)
+drop_here xs i x e = rw add-one (some-drop xs i x e)
 
 pub drop-end : {A : Type 0} (xs : List A) (i : ℕ) → None ≡ slice_get xs i → drop i xs ≡ []
 drop-end [] zero e = refl

@@ -21,7 +21,7 @@ pub struct Cell<K> {
 impl<K: Kind> Cell<K> {
     /// The cell of which nothing is known yet: its fact is that of Between -M M, and it has no reasons.
     pub fn start() -> Cell<K>
-        ensures { cell_of result ≡ start_cell model }
+        ensures { cell_of result ≡ start_cell K.model }
     {
         Cell {
             fact: K::state(Statement::Between(BOTTOM, TOP)),
@@ -31,7 +31,7 @@ impl<K: Kind> Cell<K> {
 
     /// Whether the cell allows no number.
     pub fn in_conflict(self) -> bool
-        ensures { result ≡ none model (cell_of self).fact }
+        ensures { result ≡ none K.model (cell_of self).fact }
     {
         allows_none(self.fact)
     }
@@ -39,7 +39,7 @@ impl<K: Kind> Cell<K> {
     /// The cell told g for reasons s. Where that leaves its fact nothing changes; where it leaves no more than g says by
     /// itself the reasons become s; otherwise they are both together.
     pub fn told(self, g: K, s: Reasons) -> Cell<K>
-        ensures { cell_of result ≡ told_cell model g (tags_of s) (cell_of self) }
+        ensures { cell_of result ≡ told_cell K.model g (tags_of s) (cell_of self) }
     {
         let h = told(self.fact, g);
         if h.same(self.fact) {

@@ -32,7 +32,7 @@ pub fn can_fire(k: Constraint, n: usize) -> bool
 // Whether a cell that the form names is in conflict.
 fn has_conflict<K: Kind>(table: &[Cell<K>], form: Form) -> bool
     requires { Inside (length table.now) (named form) }
-    ensures { result ≡ any_in_conflict model (facts (table_of model table.now)) (named form) }
+    ensures { result ≡ any_in_conflict K.model (facts (table_of K.model table.now)) (named form) }
 {
     let mut i = 0;
     while let Some(x) = named_at(form, i) {
@@ -48,8 +48,8 @@ fn has_conflict<K: Kind>(table: &[Cell<K>], form: Form) -> bool
 fn make_dead<K: Kind>(table: &mut [Cell<K>], k: Constraint, x: usize) -> bool
     requires known { known (length table.old) 32 k ≡ true }
     requires inside { x < length table.old }
-    ensures table { table_of model table.new ≡ after_dead model (owned_by k.owner) (named k.form) x (table_of model table.old) }
-    ensures change { result ≡ changed model (table_of model table.old) (table_of model table.new) x }
+    ensures table { table_of K.model table.new ≡ after_dead K.model (owned_by k.owner) (named k.form) x (table_of K.model table.old) }
+    ensures change { result ≡ changed K.model (table_of K.model table.old) (table_of K.model table.new) x }
 {
     let s = Reasons::owned(k.owner).union(form_reasons(table, k.form));
     tell(table, x, K::state(Statement::Between(TOP, BOTTOM)), s)
@@ -58,8 +58,8 @@ fn make_dead<K: Kind>(table: &mut [Cell<K>], k: Constraint, x: usize) -> bool
 // Tells each cell that the constraint names that no number is allowed.
 fn make_deads<K: Kind>(table: &mut [Cell<K>], k: Constraint) -> Changed
     requires { known (length table.old) 32 k ≡ true }
-    ensures table { table_of model table.new ≡ after_deads model (owned_by k.owner) (named k.form) (named k.form) (table_of model table.old) }
-    ensures cells { changed_cells result ≡ deads_change model (owned_by k.owner) (named k.form) (named k.form) (table_of model table.old) }
+    ensures table { table_of K.model table.new ≡ after_deads K.model (owned_by k.owner) (named k.form) (named k.form) (table_of K.model table.old) }
+    ensures cells { changed_cells result ≡ deads_change K.model (owned_by k.owner) (named k.form) (named k.form) (table_of K.model table.old) }
 {
     let mut out = Changed::none();
     let mut i = 0;
@@ -74,8 +74,8 @@ fn make_deads<K: Kind>(table: &mut [Cell<K>], k: Constraint) -> Changed
 // Makes the constraint's tells in their order, until one puts its cell in conflict.
 fn make_tells<K: Kind>(table: &mut [Cell<K>], k: Constraint) -> Changed
     requires { known (length table.old) 32 k ≡ true }
-    ensures table { table_of model table.new ≡ after_tells model (owned_by k.owner) (tells k.form) (table_of model table.old) }
-    ensures cells { changed_cells result ≡ tells_change model (owned_by k.owner) (tells k.form) (table_of model table.old) }
+    ensures table { table_of K.model table.new ≡ after_tells K.model (owned_by k.owner) (tells k.form) (table_of K.model table.old) }
+    ensures cells { changed_cells result ≡ tells_change K.model (owned_by k.owner) (tells k.form) (table_of K.model table.old) }
 {
     let mut out = Changed::none();
     let mut i = 0;
@@ -95,7 +95,7 @@ fn make_tells<K: Kind>(table: &mut [Cell<K>], k: Constraint) -> Changed
 /// names is in conflict already, each cell that it names is told that no number is allowed. Answers the cells whose facts
 /// changed; absent, and the table untouched, exactly where the constraint can't be fired over a table of this length.
 pub fn fire<K: Kind>(table: &mut [Cell<K>], k: Constraint) -> Option<Changed>
-    ensures { Fired model k table.old result table.new }
+    ensures { Fired K.model k table.old result table.new }
 {
     if !can_fire(k, table.len()) {
         return None;

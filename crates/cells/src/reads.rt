@@ -21,7 +21,7 @@ use statements::statement::Statement;
 // The lowest of cell x.
 fn low_at<K: Kind>(table: &[Cell<K>], x: usize) -> i64
     requires { x < length table.now }
-    ensures is { result ≡ low model (table_of model table.now x).fact }
+    ensures is { result ≡ low K.model (table_of K.model table.now x).fact }
     ensures within { InU result }
 {
     lowest(table[x].fact)
@@ -30,7 +30,7 @@ fn low_at<K: Kind>(table: &[Cell<K>], x: usize) -> i64
 // The highest of cell x.
 fn high_at<K: Kind>(table: &[Cell<K>], x: usize) -> i64
     requires { x < length table.now }
-    ensures is { result ≡ high model (table_of model table.now x).fact }
+    ensures is { result ≡ high K.model (table_of K.model table.now x).fact }
     ensures within { InU result }
 {
     highest(table[x].fact)
@@ -39,7 +39,7 @@ fn high_at<K: Kind>(table: &[Cell<K>], x: usize) -> i64
 // Whether cell x is in conflict.
 pub(crate) fn conflict_at<K: Kind>(table: &[Cell<K>], x: usize) -> bool
     requires { x < length table.now }
-    ensures { result ≡ none model (table_of model table.now x).fact }
+    ensures { result ≡ none K.model (table_of K.model table.now x).fact }
 {
     table[x].in_conflict()
 }
@@ -47,7 +47,7 @@ pub(crate) fn conflict_at<K: Kind>(table: &[Cell<K>], x: usize) -> bool
 // The reasons of cell x together with others.
 fn with_reasons<K: Kind>(table: &[Cell<K>], x: usize, rest: Reasons) -> Reasons
     requires { x < length table.now }
-    ensures { tags_of result ≡ together (table_of model table.now x).reasons (tags_of rest) }
+    ensures { tags_of result ≡ together (table_of K.model table.now x).reasons (tags_of rest) }
 {
     table[x].reasons.union(rest)
 }
@@ -55,7 +55,7 @@ fn with_reasons<K: Kind>(table: &[Cell<K>], x: usize, rest: Reasons) -> Reasons
 // The reasons of the cells that a saying reads.
 fn saying_reasons<K: Kind>(table: &[Cell<K>], saying: Saying) -> Reasons
     requires { FitSaying (length table.now) saying }
-    ensures { tags_of result ≡ reasons_of (table_of model table.now) (saying_reads saying) }
+    ensures { tags_of result ≡ reasons_of (table_of K.model table.now) (saying_reads saying) }
 {
     match saying {
         Saying::Stated(_) => Reasons::none(),
@@ -71,7 +71,7 @@ fn saying_reasons<K: Kind>(table: &[Cell<K>], saying: Saying) -> Reasons
 pub(crate) fn tell_reasons<K: Kind>(table: &[Cell<K>], t: Tell) -> Reasons
     requires condition { FitCondition (length table.now) t.condition }
     requires saying { FitSaying (length table.now) t.saying }
-    ensures { tags_of result ≡ reasons_of (table_of model table.now) (reads t) }
+    ensures { tags_of result ≡ reasons_of (table_of K.model table.now) (reads t) }
 {
     let rest = saying_reasons(table, t.saying);
     match t.condition {
@@ -83,7 +83,7 @@ pub(crate) fn tell_reasons<K: Kind>(table: &[Cell<K>], t: Tell) -> Reasons
 // The reasons of the cells that a form names.
 pub(crate) fn form_reasons<K: Kind>(table: &[Cell<K>], form: Form) -> Reasons
     requires { Inside (length table.now) (named form) }
-    ensures { tags_of result ≡ reasons_of (table_of model table.now) (named form) }
+    ensures { tags_of result ≡ reasons_of (table_of K.model table.now) (named form) }
 {
     match form {
         Form::State(c, _) => with_reasons(table, c, Reasons::none()),
@@ -100,7 +100,7 @@ pub(crate) fn form_reasons<K: Kind>(table: &[Cell<K>], form: Form) -> Reasons
 // Whether a condition holds.
 pub(crate) fn holds<K: Kind>(table: &[Cell<K>], condition: Condition) -> bool
     requires { FitCondition (length table.now) condition }
-    ensures { result ≡ holdsBy (lows model (facts (table_of model table.now))) (highs model (facts (table_of model table.now))) condition }
+    ensures { result ≡ holdsBy (lows K.model (facts (table_of K.model table.now))) (highs K.model (facts (table_of K.model table.now))) condition }
 {
     match condition {
         Condition::Always => true,
@@ -131,7 +131,7 @@ fn greatest(s: Statement, n: i64) -> i64
 // What is said.
 pub(crate) fn said<K: Kind>(table: &[Cell<K>], saying: Saying) -> Statement
     requires { FitSaying (length table.now) saying }
-    ensures { result ≡ saidBy (lows model (facts (table_of model table.now))) (highs model (facts (table_of model table.now))) saying }
+    ensures { result ≡ saidBy (lows K.model (facts (table_of K.model table.now))) (highs K.model (facts (table_of K.model table.now))) saying }
 {
     match saying {
         Saying::Stated(s) => s,

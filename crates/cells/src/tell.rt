@@ -15,8 +15,8 @@ use forms::tell::Tell;
 /// Tells cell x the fact g for reasons s, and answers whether that changes its fact. Where there is no cell x nothing
 /// changes.
 pub fn tell<K: Kind>(table: &mut [Cell<K>], x: usize, g: K, s: Reasons) -> bool
-    ensures table { table_of model table.new ≡ (if nat_lt x (length table.old) then after_told model x g (tags_of s) (table_of model table.old) else table_of model table.old) }
-    ensures change { result ≡ changed model (table_of model table.old) (table_of model table.new) x }
+    ensures table { table_of K.model table.new ≡ (if nat_lt x (length table.old) then after_told K.model x g (tags_of s) (table_of K.model table.old) else table_of K.model table.old) }
+    ensures change { result ≡ changed K.model (table_of K.model table.old) (table_of K.model table.new) x }
 {
     if x >= table.len() {
         return false;
@@ -31,8 +31,8 @@ pub fn tell<K: Kind>(table: &mut [Cell<K>], x: usize, g: K, s: Reasons) -> bool
 pub(crate) fn make<K: Kind>(table: &mut [Cell<K>], owner: Option<usize>, t: Tell) -> bool
     requires owner { owner_known 32 owner ≡ true }
     requires fit { FitTell (length table.old) t }
-    ensures table { table_of model table.new ≡ after_tell model (owned_by owner) t (table_of model table.old) }
-    ensures change { result ≡ changed model (table_of model table.old) (table_of model table.new) t.target }
+    ensures table { table_of K.model table.new ≡ after_tell K.model (owned_by owner) t (table_of K.model table.old) }
+    ensures change { result ≡ changed K.model (table_of K.model table.old) (table_of K.model table.new) t.target }
 {
     if !holds(table, t.condition) {
         return false;

@@ -9,7 +9,7 @@ use statements::statement::Statement;
 
 /// The lowest number that f allows, or M where it allows none.
 pub fn lowest<K: Kind>(f: K) -> i64
-    ensures is { result ≡ low model f }
+    ensures is { result ≡ low K.model f }
     ensures within { InU result }
 {
     match f.next(BOTTOM) {
@@ -20,7 +20,7 @@ pub fn lowest<K: Kind>(f: K) -> i64
 
 /// The highest number that f allows, or -M where it allows none.
 pub fn highest<K: Kind>(f: K) -> i64
-    ensures is { result ≡ high model f }
+    ensures is { result ≡ high K.model f }
     ensures within { InU result }
 {
     match f.last(TOP) {
@@ -31,7 +31,7 @@ pub fn highest<K: Kind>(f: K) -> i64
 
 /// Does f allow no number?
 pub fn allows_none<K: Kind>(f: K) -> bool
-    ensures { result ≡ none model f }
+    ensures { result ≡ none K.model f }
 {
     match f.next(BOTTOM) {
         Some(_) => false,
@@ -41,24 +41,24 @@ pub fn allows_none<K: Kind>(f: K) -> bool
 
 /// f merged with the Between of its lowest and highest.
 pub fn tidy<K: Kind>(f: K) -> K
-    ensures is { result ≡ tidy model f }
-    ensures laws { TidyLaws model }
+    ensures is { result ≡ tidy K.model f }
+    ensures laws { TidyLaws K.model }
 {
     f.merge(K::state(Statement::Between(lowest(f), highest(f))))
 }
 
 /// f told g: the two merged, and tidied.
 pub fn told<K: Kind>(f: K, g: K) -> K
-    ensures { result ≡ told model g f }
+    ensures { result ≡ told K.model g f }
 {
     tidy(f.merge(g))
 }
 
 /// Tells each fact what s states, and answers how many that changes; their sizes together fall by at least as many.
 pub fn narrow<K: Kind>(facts: &mut [K], s: Statement) -> usize
-    ensures facts { facts.new ≡ map (told model (model.stated s)) facts.old }
-    ensures count { result ≡ count_by (changes model (model.stated s)) facts.old }
-    ensures falls { sizes model facts.new + result ≤ sizes model facts.old }
+    ensures facts { facts.new ≡ map (told K.model (K.model.stated s)) facts.old }
+    ensures count { result ≡ count_by (changes K.model (K.model.stated s)) facts.old }
+    ensures falls { sizes K.model facts.new + result ≤ sizes K.model facts.old }
 {
     let g = K::state(s);
     let mut changed = 0;

@@ -6,21 +6,21 @@ use facts::kind::Kind;
 
 /// No reasons that name all premises in force: a step brings in only those that own its constraint.
 pub fn own_reasons_only<K: Kind>() -> u8
-    ensures { OwnReasonsOnly model }
+    ensures { OwnReasonsOnly K.model }
 {
     0
 }
 
 /// No run makes more steps than its budget, and no seek more moves.
 pub fn within_budget<K: Kind>() -> u8
-    ensures { WithinBudget model }
+    ensures { WithinBudget K.model }
 {
     0
 }
 
 /// No seek answers none, and no run a conflict, where some placement meets the premises in force.
 pub fn only_in_vain<K: Kind>() -> u8
-    ensures { OverHistories model OnlyInVain }
+    ensures { OverHistories K.model OnlyInVain }
 {
     0
 }

@@ -1,5 +1,5 @@
 -- One step of the expression readers against the reading of the whole line.
-use Rattle.std.proofs.Common.{◌≡◌, ℕ, ◌+◌, ◌<◌, ◌≤◌, true, false, ltb, List, [], ◌∷◌, map, length, get_or, Some, None, Ok, Err, Option, Result, sym, refl, ap, ◌∙◌, subst, add_one, arith, drop-cons, le-ltb, lt-ltb}
+use Rattle.std.proofs.Common.{◌≡◌, ℕ, ◌+◌, ◌<◌, ◌≤◌, true, false, ltb, List, [], ◌∷◌, map, length, get_or, Some, None, Ok, Err, Option, Result, sym, refl, ap, ◌∙◌, subst, add-one, arith, drop-cons, le-ltb, lt-ltb}
 use Rattle.std.proofs.lemmas.List.{drop_all}
 use Rattle.words.specs.declared.Keyword.{Keyword}
 use Rattle.words.specs.declared.Symbol.{Symbol}
@@ -28,7 +28,7 @@ abbrev pub at_word : List Placed → ℕ → Placed
 at_word ws i = get_or ws i none
 
 pub from_step : (ws : List Placed) (i : ℕ) → i < length ws → from ws i ≡ spot (at_word ws i) ∷ from ws (i + 1)
-from_step ws i h = ap (map spot) (drop-cons ws i none h) ∙ rw add_one refl
+from_step ws i h = ap (map spot) (drop-cons ws i none h) ∙ rw add-one refl
 
 pub from_end : (ws : List Placed) (i : ℕ) → length ws ≤ i → from ws i ≡ []
 from_end ws i h = ap (map spot) (drop_all i ws h)

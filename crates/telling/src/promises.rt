@@ -5,35 +5,35 @@ use facts::kind::Kind;
 
 /// Firing tells no more than every stable table above the present one.
 pub fn tells_no_more<K: Kind>() -> u8
-    ensures { TellsNoMore model }
+    ensures { TellsNoMore K.model }
 {
     0
 }
 
 /// A placement that lies within the cells and satisfies the constraint still lies within them after firing.
 pub fn loses_none<K: Kind>() -> u8
-    ensures { LosesNone model }
+    ensures { LosesNone K.model }
 {
     0
 }
 
 /// In an exact kind, a constraint that changes nothing where each of its cells has one number is satisfied by those numbers.
 pub fn settles_right<K: Kind>() -> u8
-    ensures { SettlesRight model }
+    ensures { SettlesRight K.model }
 {
     0
 }
 
 /// Each change makes the table smaller.
 pub fn shrinks<K: Kind>() -> u8
-    ensures { Shrinks model }
+    ensures { Shrinks K.model }
 {
     0
 }
 
 /// The cells that a firing is said to change are exactly those whose fact changed, among those that the constraint names.
 pub fn goes_so<K: Kind>() -> u8
-    ensures { GoesSo model }
+    ensures { GoesSo K.model }
 {
     0
 }

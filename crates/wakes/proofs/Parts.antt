@@ -1,5 +1,5 @@
 -- Lists one after another, and where each begins.
-use Rattle.std.proofs.Common.{◌≡◌, ℕ, zero, suc, ◌+◌, ◌-◌, ◌*◌, ◌<◌, ◌≤◌, List, [], ◌∷◌, ◌++◌, length, get_or, take, sym, ap, ◌∙◌, ⊎_elim, append_assoc, append-nil, add_one, arith, length-append}
+use Rattle.std.proofs.Common.{◌≡◌, ℕ, zero, suc, ◌+◌, ◌-◌, ◌*◌, ◌<◌, ◌≤◌, List, [], ◌∷◌, ◌++◌, length, get_or, take, sym, ap, ◌∙◌, ⊎_elim, append_assoc, append-nil, add-one, arith, length-append}
 use Rattle.std.specs.List.{between}
 use Rattle.std.proofs.lemmas.List.{take_at, drop_at, get_or_at, get_or_append_left}
 use Rattle.std.proofs.lemmas.Bool.{cases_lt}
@@ -60,7 +60,7 @@ module _ {s : ℕ → Members} {n x : ℕ} {starts items : List ℕ} (known : Fi
       record {
         long = next_long;
         begins = λ y l. next_begins y (omega arith);
-        whole = e ∙ ap (λ r. r ++ listed (s x) n) known.whole ∙ ap (parts s n) (sym (add_one x));
+        whole = e ∙ ap (λ r. r ++ listed (s x) n) known.whole ∙ ap (parts s n) (sym (add-one x));
       }
 
   -- With the last start the parts are laid.
@@ -69,7 +69,7 @@ module _ {s : ℕ → Members} {n x : ℕ} {starts items : List ℕ} (known : Fi
   filling_all = record { long = next_long; order = order; within = within; part = part }
     where
       grows : (y : ℕ) → length (parts s n (y + 1)) ≡ length (parts s n y) + length (listed (s y) n)
-      grows y = ap (λ z. length (parts s n z)) (add_one y) ∙ length-append (parts s n y) (listed (s y) n)
+      grows y = ap (λ z. length (parts s n z)) (add-one y) ∙ length-append (parts s n y) (listed (s y) n)
 
       order : (y : ℕ) → y < x → get_or next y 0 ≤ get_or next (y + 1) 0
       order y l =
@@ -82,7 +82,7 @@ module _ {s : ℕ → Members} {n x : ℕ} {starts items : List ℕ} (known : Fi
           let front = parts_front s n (y + 1) (x - (y + 1)) in
           let e : x ≡ (y + 1) + (x - (y + 1)) = omega arith in (
             front.0,
-            known.whole ∙ ap (parts s n) e ∙ front.1 ∙ ap (λ z. parts s n z ++ front.0) (add_one y) ∙ append_assoc (parts s n y) (listed (s y) n) front.0,
+            known.whole ∙ ap (parts s n) e ∙ front.1 ∙ ap (λ z. parts s n z ++ front.0) (add-one y) ∙ append_assoc (parts s n y) (listed (s y) n) front.0,
           )
 
       within : (y : ℕ) → y < x → get_or next (y + 1) 0 ≤ length items

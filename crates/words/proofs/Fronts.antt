@@ -1,12 +1,12 @@
 -- Longest fronts, and decimal numbers read from the left.
-use Rattle.std.proofs.Common.{◌≡◌, ℕ, zero, suc, ◌+◌, ◌-◌, ◌*◌, ◌<◌, ◌≤◌, Bool, true, false, cond, ltb, List, [], ◌∷◌, ◌++◌, length, get_or, take, drop, Option, refl, ap, le_trans, le_refl, add_one, arith, drop-cons, le-ltb}
+use Rattle.std.proofs.Common.{◌≡◌, ℕ, zero, suc, ◌+◌, ◌-◌, ◌*◌, ◌<◌, ◌≤◌, Bool, true, false, cond, ltb, List, [], ◌∷◌, ◌++◌, length, get_or, take, drop, Option, refl, ap, le_trans, le_refl, add-one, arith, drop-cons, le-ltb}
 use Rattle.words.specs.declared.Keyword.{Keyword}
 use Rattle.words.specs.Keywords.{keyword_of}
 use Rattle.words.specs.Laid.{All}
 use Rattle.words.specs.Words.{front, decimal_after, longest, or_name, name_at, word}
 
 pub front_pass : (p : ℕ → Bool) (s : List ℕ) (n : ℕ) → n < length s → p (get_or s n 0) ≡ true → length (front p (drop n s)) ≡ 1 + length (front p (drop (n + 1) s))
-front_pass p s n h e = rw (add_one, drop-cons s n 0, e) (omega arith)
+front_pass p s n h e = rw (add-one, drop-cons s n 0, e) (omega arith)
 
 pub front_stop : (p : ℕ → Bool) (s : List ℕ) (n : ℕ) → n < length s → p (get_or s n 0) ≡ false → length (front p (drop n s)) ≡ 0
 front_stop p s n h e = rw (drop-cons s n 0, e)
@@ -34,7 +34,7 @@ front_le p (b ∷ s) = go (p b) (front_le p s)
     go false h = omega arith
 
 pub decimal_step : (v : ℕ) (s : List ℕ) (n : ℕ) → n < length s → decimal_after v (drop n s) ≡ decimal_after (v * 10 + (get_or s n 0 - 48)) (drop (n + 1) s)
-decimal_step v s n h = rw (add_one, drop-cons s n 0)
+decimal_step v s n h = rw (add-one, drop-cons s n 0)
 
 pub decimal_ge : (v : ℕ) (s : List ℕ) → v ≤ decimal_after v s
 decimal_ge v [] = le_refl v

@@ -1,5 +1,5 @@
 -- What one turn of the reader does to the words that are read.
-use Rattle.std.proofs.Common.{◌≡◌, ℕ, zero, suc, ◌+◌, ◌-◌, ◌<◌, ◌≤◌, Bool, true, false, cond, eqb, ltb, List, [], ◌∷◌, ◌++◌, map, length, get_or, take, drop, Ok, Err, Result, sym, refl, ap, ◌∙◌, subst, add-zero, add_one, arith, length-drop, drop-cons, drop-drop}
+use Rattle.std.proofs.Common.{◌≡◌, ℕ, zero, suc, ◌+◌, ◌-◌, ◌<◌, ◌≤◌, Bool, true, false, cond, eqb, ltb, List, [], ◌∷◌, ◌++◌, map, length, get_or, take, drop, Ok, Err, Result, sym, refl, ap, ◌∙◌, subst, add-zero, add-one, arith, length-drop, drop-cons, drop-drop}
 use Rattle.std.proofs.lemmas.List.{take_rest, drop_all, map_push}
 use Rattle.words.specs.declared.Slip.{Slip}
 use Rattle.words.specs.declared.Placed.{Placed}
@@ -86,7 +86,7 @@ after_err (x ∷ ws) f = ap (before x) (after_err ws f)
 
 -- the reading at a place is what its start says
 pub here : (line : List ℕ) (i : ℕ) (t : Start) → i < length line → t ≡ front_of (drop i line) → words_from 0 (i + 1) (drop i line) ≡ onward (i + 1) t (λ skip. words_from skip (i + 1 + 1) (drop (i + 1) line))
-here line i t h e = rw (e, add_one i, drop-cons line i 0) refl
+here line i t h e = rw (e, add-one i, drop-cons line i 0) refl
 
 -- the start of the part of a line from i on
 pub record At (line : List ℕ) (i : ℕ) (t : Start) : Type 0 where

@@ -5,8 +5,8 @@ use Rattle.facts.proofs.Narrows.{narrowed_more, narrowed_all, narrowed_le, count
 use Rattle.facts.proofs.tidy.narrow.Goals as goal
 use Rattle.facts.proofs.tidy.narrow.Goals.{then-not-same, else-not-same}
 
-pub overflow-add-changed : goal.overflow-add-changed
-overflow-add-changed g c =
+pub overflow_add-changed : goal.overflow_add-changed
+overflow_add-changed g c =
     let few = narrowed_le g.K.Kind.model c.state-g.result c.args.facts.now c.loop-i.i c.loop-i.facts c.loop-i.changed c.loop-i.invariant in
     search rules
 

@@ -1,11 +1,11 @@
-use Rattle.std.proofs.Common.{◌≡◌, ℕ, ◌+◌, ◌<◌, ◌&&◌, List, length, get_or, drop, sym, refl, ap, ◌∙◌, add_one, drop-cons}
+use Rattle.std.proofs.Common.{◌≡◌, ℕ, ◌+◌, ◌<◌, ◌&&◌, List, length, get_or, drop, sym, refl, ap, ◌∙◌, add-one, drop-cons}
 use Rattle.std.proofs.lemmas.List.{drop_all}
 use Rattle.plan.specs.Known.{known, all_known}
 use Rattle.plan.specs.declared.constraint.Constraint.{Constraint}
 use Rattle.plan.proofs.plans.are_known.Goals as goal
 
 known-here : (n m : ℕ) (ks : List Constraint) (i : ℕ) (k : Constraint) → i < length ks → k ≡ get_or ks i k → all_known n m (drop i ks) ≡ (known n m k && all_known n m (drop (i + 1) ks))
-known-here n m ks i k h is = rw (drop-cons ks i k, add_one i) (ap (λ x. known n m x && all_known n m (drop (Prim.Native.Nat.suc i) ks)) (sym is))
+known-here n m ks i k h is = rw (drop-cons ks i k, add-one i) (ap (λ x. known n m x && all_known n m (drop (Prim.Native.Nat.suc i) ks)) (sym is))
 
 pub loop-k-init : goal.loop-k-init
 loop-k-init c = refl

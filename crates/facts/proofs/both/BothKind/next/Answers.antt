@@ -7,20 +7,20 @@ use Rattle.facts.proofs.both.BothKind.next.Goals as goal
 pub loop-v-init : goal.loop-v-init
 loop-v-init g c = (omega (arith, ints), λ m h k. absurd (omega (arith, ints)))
 
-pub returns-in-default : goal.returns-in-default
-returns-in-default g c =
+pub returns-in_default : goal.returns-in_default
+returns-in_default g c =
     let a = g.A.Kind.model.allows c.args.self.first in
     let b = g.B.Kind.model.allows c.args.self.second in
     let n-is : to_z w64 (of_z w64 c.args.n) ≡ c.args.n = omega (arith, ints) in
-    next_first_none a b c.args.n _ _ n-is c.loop-v.invariant c.in-default.ensures
+    next_first_none a b c.args.n _ _ n-is c.loop-v.invariant c.in_default.ensures
 
-pub returns-in-default-next : goal.returns-in-default-next
-returns-in-default-next g c =
+pub returns-in_default-next : goal.returns-in_default-next
+returns-in_default-next g c =
     let a = g.A.Kind.model.allows c.args.self.first in
     let b = g.B.Kind.model.allows c.args.self.second in
     let n-is : to_z w64 (of_z w64 c.args.n) ≡ c.args.n = omega (arith, ints) in
     let v-is : to_z w64 (of_z w64 c.in-Some.v) ≡ c.in-Some.v = omega (arith, ints) in
-    next_second_none a b c.args.n _ _ n-is c.loop-v.invariant c.in-Some.v (to_z w64 (of_z w64 c.in-Some.v)) v-is c.in-Some.ensures c.in-default-next.ensures
+    next_second_none a b c.args.n _ _ n-is c.loop-v.invariant c.in-Some.v (to_z w64 (of_z w64 c.in-Some.v)) v-is c.in-Some.ensures c.in_default-next.ensures
 
 pub returns-then-w-v : goal.returns-then-w-v
 returns-then-w-v g c =
