@@ -13,12 +13,12 @@ import subprocess
 import sys
 import tempfile
 
-TOKEN = re.compile(r"(?<![\w'′-])([A-Za-z][\w'′]*(?:-[\w'′]+)*)(?![\w'′])")
+TOKEN = re.compile(r"(?<![\w'′-])([A-Za-z][\w'′]*(?:[-+][\w'′]+)*)(?![\w'′])")
 
 
 def strings(value, out):
     if isinstance(value, str):
-        if re.match(r"^[A-Za-z][\w'-]*$", value):
+        if re.match(r"^[A-Za-z][\w'+-]*$", value):
             out.add(value)
     elif isinstance(value, list):
         for v in value:

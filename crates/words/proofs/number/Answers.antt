@@ -9,15 +9,15 @@ pub returns-then-v-gt-TOP : goal.returns-then-v-gt-TOP
 returns-then-v-gt-TOP c =
     let h : c.loop-d.d-index < length c.args.digits.now = omega arith in
     let s = decimal_step c.loop-d.v c.args.digits.now c.loop-d.d-index h in
-    let g = decimal_ge (c.loop-d.v * 10 + c.saturating-sub.result) (drop (c.loop-d.d-index + 1) c.args.digits.now) in
-    let e = rw (sym c.saturating-sub.ensures) at s in
+    let g = decimal_ge (c.loop-d.v * 10 + c.saturating_sub.result) (drop (c.loop-d.d-index + 1) c.args.digits.now) in
+    let e = rw (sym c.saturating_sub.ensures) at s in
     let big : 4294967295 < decimal c.args.digits.now = omega (arith, c.loop-d.invariant.1) in
     grind (arith, nat_tests)
 
 pub loop-d-preserved : goal.loop-d-preserved
 loop-d-preserved c =
     let h : c.loop-d.d-index < length c.args.digits.now = omega arith in
-    (omega arith, rw c.saturating-sub.ensures (sym (decimal_step c.loop-d.v c.args.digits.now c.loop-d.d-index h) ∙ c.loop-d.invariant.1))
+    (omega arith, rw c.saturating_sub.ensures (sym (decimal_step c.loop-d.v c.args.digits.now c.loop-d.d-index h) ∙ c.loop-d.invariant.1))
 
 pub returns : goal.returns
 returns c =

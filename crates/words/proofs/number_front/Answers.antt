@@ -5,13 +5,13 @@ use Rattle.std.proofs.lemmas.Bool.Decides.{nat_tests}
 use Rattle.words.specs.Class.{class_of, is_class}
 use Rattle.words.specs.Words.{decimal}
 use Rattle.words.proofs.number_front.Goals as goal
-use Rattle.words.proofs.number_front.Goals.{else-n-rest-via-then-n-rest+else-class-of-eq1, else-n-rest-via-else-n-rest}
+use Rattle.words.proofs.number_front.Goals.{else-n-rest-via-then-n-rest+else-class_of-eq1, else-n-rest-via-else-n-rest}
 
 pub returns-in-None : goal.returns-in-None
-returns-in-None c = let d = ap decimal c.run-len-n.ensures.part in grind (arith, nat_tests, c.in-None.ensures)
+returns-in-None c = let d = ap decimal c.run_len-n.ensures.part in grind (arith, nat_tests, c.in-None.ensures)
 
-pub returns-then-class-of-eq1 : goal.returns-then-class-of-eq1
-returns-then-class-of-eq1 c = let d = ap decimal c.run-len-n.ensures.part in grind (arith, nat_tests, c.in-Some.ensures)
+pub returns-then-class_of-eq1 : goal.returns-then-class_of-eq1
+returns-then-class_of-eq1 c = let d = ap decimal c.run_len-n.ensures.part in grind (arith, nat_tests, c.in-Some.ensures)
 
 -- past the end there is no letter
 no_letter : is_class 1 0 ≡ false
@@ -20,10 +20,10 @@ no_letter = refl
 
 pub returns-else-n-rest : goal.returns-else-n-rest
 returns-else-n-rest c =
-    let d = ap decimal c.run-len-n.ensures.part in
+    let d = ap decimal c.run_len-n.ensures.part in
     elim c.else-n-rest.branch [
-      | else-n-rest-via-then-n-rest+else-class-of-eq1 w ↦ grind (arith, nat_tests, c.in-Some.ensures)
+      | else-n-rest-via-then-n-rest+else-class_of-eq1 w ↦ grind (arith, nat_tests, c.in-Some.ensures)
       | else-n-rest-via-else-n-rest w ↦
-          let e = get_or_past c.args.rest.now c.run-len-n.result 0 (omega arith) in
+          let e = get_or_past c.args.rest.now c.run_len-n.result 0 (omega arith) in
           grind (arith, nat_tests, c.in-Some.ensures, no_letter)
     ]

@@ -6,12 +6,12 @@ use Rattle.words.proofs.run_len.Goals as goal
 
 pub loop-n-preserved : goal.loop-n-preserved
 loop-n-preserved c =
-    let e = front_pass (solid c.args.least) c.args.s.now c.loop-n.n c.loop-n-test.true (sym c.if-is-solid.ensures) in
+    let e = front_pass (solid c.args.least) c.args.s.now c.loop-n.n c.loop-n-test.true (sym c.if-is_solid.ensures) in
     (omega arith, omega (arith, c.loop-n.invariant.1))
 
-pub returns-else-is-solid : goal.returns-else-is-solid
-returns-else-is-solid c =
-    let e = front_stop (solid c.args.least) c.args.s.now c.loop-n.n c.loop-n-test.true (sym c.if-is-solid.ensures) in
+pub returns-else-is_solid : goal.returns-else-is_solid
+returns-else-is_solid c =
+    let e = front_stop (solid c.args.least) c.args.s.now c.loop-n.n c.loop-n-test.true (sym c.if-is_solid.ensures) in
     let n : c.loop-n.n ≡ length (front (solid c.args.least) c.args.s.now) = omega (arith, c.loop-n.invariant.1) in
     record { count = n; within = omega arith; part = rw n (front_is_take (solid c.args.least) c.args.s.now) }
 

@@ -6,7 +6,7 @@ use Rattle.words.proofs.Scan.{At, fits, gap_step, word-step, bad-step, end_step}
 use Rattle.words.proofs.words.Goals as goal
 use Rattle.words.proofs.words.Goals.{In-Bad}
 
-in_word : (c : goal.Else-is-err) → At c.args.line.now c.loop-at.at (word c.in-Word.n (meant c.in-Word.token))
+in_word : (c : goal.Else-is_err) → At c.args.line.now c.loop-at.at (word c.in-Word.n (meant c.in-Word.token))
 in_word c = record { on = c.loop-at-test.true; is = c.in-Word.ensures }
 
 in_bad : (c : goal.In-Bad) → At c.args.line.now c.loop-at.at (bad c.in-Bad.n c.in-Bad.slip)
@@ -15,19 +15,19 @@ in_bad c = record { on = c.loop-at-test.true; is = c.in-Bad.ensures }
 pub loop-at-preserved-in-Space : goal.loop-at-preserved-in-Space
 loop-at-preserved-in-Space c = gap_step (record { on = c.loop-at-test.true; is = c.in-Space.ensures }) c.loop-at.invariant
 
-pub overflow-add-at-in-Word : goal.overflow-add-at-in-Word
-overflow-add-at-in-Word c = omega (arith, fits (in_word c))
+pub overflow_add-at-in-Word : goal.overflow_add-at-in-Word
+overflow_add-at-in-Word c = omega (arith, fits (in_word c))
 
 pub loop-at-smaller : goal.loop-at-smaller
 loop-at-smaller c = omega (arith, fits (in_word c))
 
 pub loop-at-preserved : goal.loop-at-preserved
 loop-at-preserved c =
-    let pushed = chosen _ _ _ _ c.push.ensures.items c.if-is-err.ensures.negation in
+    let pushed = chosen _ _ _ _ c.push.ensures.items c.if-is_err.ensures.negation in
     word-step _ _ pushed (in_word c) refl (omega arith) c.loop-at.invariant
 
-pub overflow-add-result-in-Bad : goal.overflow-add-result-in-Bad
-overflow-add-result-in-Bad c = omega (arith, fits (in_bad c))
+pub overflow_add-result-in-Bad : goal.overflow_add-result-in-Bad
+overflow_add-result-in-Bad c = omega (arith, fits (in_bad c))
 
 pub returns-in-Bad : goal.returns-in-Bad
 returns-in-Bad c = bad-step (record { on = c.loop-at-test.true; is = c.in-Bad.ensures }) c.loop-at.invariant

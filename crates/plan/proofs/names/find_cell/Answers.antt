@@ -9,10 +9,10 @@ loop-i-init c = past_none
 pub returns : goal.returns
 returns c = past_all c.loop-i.invariant c.loop-i-test.false
 
-pub returns-then-is-spelled : goal.returns-then-is-spelled
-returns-then-is-spelled c =
-    past-found None c.loop-i.invariant c.loop-i-test.true (c.if-is-spelled.ensures ∙ ap (λ o. spells o c.args.name.now) c.name-at.ensures)
+pub returns-then-is_spelled : goal.returns-then-is_spelled
+returns-then-is_spelled c =
+    past-found None c.loop-i.invariant c.loop-i-test.true (c.if-is_spelled.ensures ∙ ap (λ o. spells o c.args.name.now) c.name_at.ensures)
 
 pub loop-i-preserved : goal.loop-i-preserved
 loop-i-preserved c =
-    past_more None c.loop-i.invariant c.loop-i-test.true (c.if-is-spelled.ensures ∙ ap (λ o. spells o c.args.name.now) c.name-at.ensures)
+    past_more None c.loop-i.invariant c.loop-i-test.true (c.if-is_spelled.ensures ∙ ap (λ o. spells o c.args.name.now) c.name_at.ensures)

@@ -10,14 +10,14 @@ known-here n m ks i k h is = rw (drop-cons ks i k, add-one i) (ap (λ x. known n
 pub loop-k-init : goal.loop-k-init
 loop-k-init c = refl
 
-pub returns-then-not-is-known : goal.returns-then-not-is-known
-returns-then-not-is-known c =
-    ap (λ b. b && all_known c.args.cells c.args.premises (drop (c.loop-k.k-index + 1) c.args.constraints.now)) c.if-not-is-known.ensures
+pub returns-then-not-is_known : goal.returns-then-not-is_known
+returns-then-not-is_known c =
+    ap (λ b. b && all_known c.args.cells c.args.premises (drop (c.loop-k.k-index + 1) c.args.constraints.now)) c.if-not-is_known.ensures
     ∙ sym (known-here _ _ c.args.constraints.now c.loop-k.k-index c.k-item.result c.loop-k-test.true c.k-item.is) ∙ c.loop-k.invariant
 
 pub loop-k-preserved : goal.loop-k-preserved
 loop-k-preserved c =
-    ap (λ b. b && all_known c.args.cells c.args.premises (drop (c.loop-k.k-index + 1) c.args.constraints.now)) c.if-not-is-known.ensures
+    ap (λ b. b && all_known c.args.cells c.args.premises (drop (c.loop-k.k-index + 1) c.args.constraints.now)) c.if-not-is_known.ensures
     ∙ sym (known-here _ _ c.args.constraints.now c.loop-k.k-index c.k-item.result c.loop-k-test.true c.k-item.is) ∙ c.loop-k.invariant
 
 pub returns : goal.returns

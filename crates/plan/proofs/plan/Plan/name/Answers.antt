@@ -9,5 +9,5 @@ returns-then-cell-len c =
 
 pub returns : goal.returns
 returns c =
-    ap Ok c.name-at.ensures
+    ap Ok c.name_at.ensures
     ∙ sym (ap (cell_name (c.args.chip.now ∷ c.args.project.now ∷ [])) (slice_get_read (vec_items c.args.self.now.cells) _ c.args.cell c.index.result.now c.args.self.now.cells.ok.0 (omega arith) c.index.ensures))

@@ -4,7 +4,7 @@ use Rattle.sets.proofs.Eight.{marks_none, fit_none, none_held}
 use Rattle.sets.proofs.wide.Set512.none.Goals as goal
 
 pub invariant_of-result : goal.invariant_of-result
-invariant_of-result c = (marks_none, (fit_none, tt))
+invariant_of-result c = record { marks = marks_none; fits = fit_none }
 
 pub returns : goal.returns
 returns c = none_held 0 (replicate 8 0) marks_none refl
