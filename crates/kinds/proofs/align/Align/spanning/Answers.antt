@@ -14,5 +14,5 @@ returns-then-lo-hi c = ap At (residue_ext _ anything refl refl) ∙ sym (spannin
 
 pub returns-then-lo-hi-2 : goal.returns-then-lo-hi-2
 returns-then-lo-hi-2 c =
-    let left : c.rem-euclid.result ≡ pos (rest (2 ^ 24) c.args.lo) = c.rem-euclid.ensures.value ∙ ap (λ z. int_rem_euclid z (pos 16777216)) (omega (arith, ints)) ∙ rest_euclid 16777216 c.args.lo in
+    let left : c.rem_euclid.result ≡ pos (rest (2 ^ 24) c.args.lo) = c.rem_euclid.ensures.value ∙ ap (λ z. int_rem_euclid z (pos 16777216)) (omega (arith, ints)) ∙ rest_euclid 16777216 c.args.lo in
     ap At (residue_ext _ (residue_of c.args.lo) refl (omega (arith, ints))) ∙ sym (spanning_one c.args.lo c.args.hi (omega (arith, ints)))

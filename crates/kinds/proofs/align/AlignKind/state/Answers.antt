@@ -4,8 +4,8 @@ use Rattle.std.proofs.lemmas.Int.{ints}
 use Rattle.kinds.specs.AlignLaws.{stated_by_ends}
 use Rattle.kinds.proofs.align.AlignKind.state.Goals as goal
 
-pub returns-in-default : goal.returns-in-default
-returns-in-default c =
+pub returns-in_default : goal.returns-in_default
+returns-in_default c =
     let lo = c.lowest.ensures.is in
     let hi = c.highest.ensures.is in
-    c.spanning.ensures ∙ stated_by_ends c.args.s _ _ (to_z w64 (of_z w64 c.lowest.result)) (to_z w64 (of_z w64 c.highest.result)) c.in-default.is (omega (arith, ints)) (omega (arith, ints))
+    c.spanning.ensures ∙ stated_by_ends c.args.s _ _ (to_z w64 (of_z w64 c.lowest.result)) (to_z w64 (of_z w64 c.highest.result)) c.in_default.is (omega (arith, ints)) (omega (arith, ints))
