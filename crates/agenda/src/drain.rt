@@ -6,8 +6,8 @@ use super::Agenda;
 
 /// Takes every waiting constraint and answers how many there were.
 pub fn drain<A: Agenda>(agenda: &mut A) -> usize
-    ensures none { Nobody (waits agenda.new) }
-    ensures taken { result ≡ count (waits agenda.old) 512 }
+    ensures none { Nobody (A.waits agenda.new) }
+    ensures taken { result ≡ count (A.waits agenda.old) 512 }
 {
     let mut taken = 0;
     while let Some(_) = agenda.take() {

@@ -13,8 +13,8 @@ fell g c =
     count_parted (g.A.Agenda.waits c.loop-taken.agenda) (g.A.Agenda.waits c.take.new.self) c.in-Some.field-0 512
     (g.met.A.Agenda.below c.loop-taken.agenda c.in-Some.field-0 took.0) took.0 took.1
 
-pub overflow-add-taken : goal.overflow-add-taken
-overflow-add-taken g c =
+pub overflow_add-taken : goal.overflow_add-taken
+overflow_add-taken g c =
     let all = count_le (g.A.Agenda.waits c.args.agenda.now) 512 in
     omega (arith, c.loop-taken.invariant, all)
 
@@ -26,7 +26,7 @@ loop-taken-preserved g c = omega (arith, fell g c, c.loop-taken.invariant)
 
 pub returns : goal.returns
 returns g c =
-    let left = c.in-default.ensures in
+    let left = c.in_default.ensures in
     record {
       none = same_nobody (g.A.Agenda.waits c.loop-taken.agenda) (g.A.Agenda.waits c.take.new.self) left.0 left.1;
       taken = omega (arith, count_none (g.A.Agenda.waits c.loop-taken.agenda) 512 left.0, c.loop-taken.invariant);

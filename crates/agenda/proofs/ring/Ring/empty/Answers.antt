@@ -4,11 +4,11 @@ use Rattle.agenda.proofs.Turning.{order_none}
 use Rattle.agenda.proofs.Keeping.{kept_none}
 use Rattle.agenda.proofs.ring.Ring.empty.Goals as goal
 
-pub invariant-of-self : goal.invariant-of-self
-invariant-of-self c =
+pub invariant_of-self : goal.invariant_of-self
+invariant_of-self c =
     let ring = c.args.self.now in
     let k = kept_none _ _ 0 c.none-self.ensures (order_none ring.items ring.head 0 refl) refl in
-    (k.agrees, (k.once, (k.counted, (ring.inside, tt))))
+    record { agrees = k.agrees; once = k.once; counted = k.counted; inside = ring.inside }
 
 pub returns : goal.returns
 returns c = record { none = c.none-self.ensures; order = order_none _ _ 0 refl }

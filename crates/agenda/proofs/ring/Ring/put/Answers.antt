@@ -16,14 +16,14 @@ returns-then-has c =
     let why = inr (sym c.if-has.ensures) in
     record { waiting = same_set known c.args.k why; order = same_order known c.args.k why }
 
-pub overflow-add-self : goal.overflow-add-self
-overflow-add-self c = let ring = c.args.self.now in omega (arith, within (kept ring), ring.inside)
+pub overflow_add-self : goal.overflow_add-self
+overflow_add-self c = let ring = c.args.self.now in omega (arith, within (kept ring), ring.inside)
 
-pub overflow-add-self-2 : goal.overflow-add-self-2
-overflow-add-self-2 c = omega (arith, within (kept c.args.self.now))
+pub overflow_add-self-2 : goal.overflow_add-self-2
+overflow_add-self-2 c = omega (arith, within (kept c.args.self.now))
 
-pub invariant-of-self : goal.invariant-of-self
-invariant-of-self c =
+pub invariant_of-self : goal.invariant_of-self
+invariant_of-self c =
     let ring = c.args.self.now in
     let k = c.args.k in
     let small = c.if-k-ge512.false in
@@ -31,7 +31,7 @@ invariant-of-self c =
     let room = put_room (kept ring) k small new _ c.insert.ensures in
     let long : length ring.items ≡ 512 = search rules in
     let after = kept_as _ _ _ _ (sym (order_push ring.items ring.head ring.len k long room)) (put-kept (kept ring) k small new _ c.insert.ensures) in
-    (after.agrees, (after.once, (after.counted, (ring.inside, tt))))
+    record { agrees = after.agrees; once = after.once; counted = after.counted; inside = ring.inside }
 
 pub returns : goal.returns
 returns c =

@@ -11,15 +11,15 @@ returns-then-self-eq0 c =
     let none = order_none ring.items ring.head ring.len c.if-self-eq0.true in
     record { waiting = (none_waits (kept ring) none, λ j. refl); order = sym (append-nil _) }
 
-pub overflow-add-k : goal.overflow-add-k
-overflow-add-k c = let ring = c.args.self.now in omega (arith, within (kept ring), ring.inside)
+pub overflow_add-k : goal.overflow_add-k
+overflow_add-k c = let ring = c.args.self.now in omega (arith, within (kept ring), ring.inside)
 
-pub invariant-of-self : goal.invariant-of-self
-invariant-of-self c =
+pub invariant_of-self : goal.invariant_of-self
+invariant_of-self c =
     let ring = c.args.self.now in
     let back = order_back ring.items ring.head ring.len (omega (arith, c.if-self-eq0.false)) in
     let after = take-kept (kept ring) _ _ (parts_last _ _ _ back ring.once) _ c.remove.ensures in
-    (after.agrees, (after.once, (after.counted, (ring.inside, tt))))
+    record { agrees = after.agrees; once = after.once; counted = after.counted; inside = ring.inside }
 
 pub returns : goal.returns
 returns c =

@@ -11,12 +11,12 @@ returns-then-self-eq0 c =
     let none = order_none ring.items ring.head ring.len c.if-self-eq0.true in
     record { waiting = (none_waits (kept ring) none, λ j. refl); order = refl }
 
-pub invariant-of-self : goal.invariant-of-self
-invariant-of-self c =
+pub invariant_of-self : goal.invariant_of-self
+invariant_of-self c =
     let ring = c.args.self.now in
     let front = order-front ring.items ring.head ring.len ring.inside (omega (arith, c.if-self-eq0.false)) in
     let after = take-kept (kept ring) _ _ (parts_first _ _ _ front ring.once) _ c.remove.ensures in
-    (after.agrees, (after.once, (after.counted, (search rules, tt))))
+    record { agrees = after.agrees; once = after.once; counted = after.counted; inside = search rules }
 
 pub returns : goal.returns
 returns c =
