@@ -54,10 +54,13 @@ def main():
         table = json.load(open(os.path.join(folder, "names.json")))
         head = "Rattle-%s-proofs." % crate
         for module, entry in table.items():
-            if not module.startswith(head) or not module.endswith(".Lts"):
+            if not module.startswith(head) or ".Lts" not in module:
                 continue
-            place = "crates/%s/proofs/%s" % (crate, module[len(head):-4].replace(".", "/"))
+            folder, one = module[len(head):].rsplit(".Lts", 1)
+            place = "crates/%s/proofs/%s" % (crate, folder.replace(".", "/"))
             names = known(entry)
+            # Functions that call one another share a file, and each goal begins with the function's name.
+            names |= {one[1:] + "-" + n for n in names} if one else set()
             by_key = {}
             for n in names:
                 by_key.setdefault(key(n), set()).add(n)

@@ -16,6 +16,6 @@ returns g c =
     record {
       table = make_dead m (owned_by k.owner) (named k.form) c.args.x (table_of m c.args.table.now) c.state.result (tags_of c.union-s.result)
           (lt-ltb c.args.x (length c.args.table.now) c.requires.inside) c.tell.ensures.table c.state.ensures
-          (c.union-s.ensures ∙ ap₂ together c.owned.ensures c.form-reasons.ensures);
+          (c.union-s.ensures ∙ ap₂ together c.owned.ensures c.form_reasons.ensures);
       change = c.tell.ensures.change;
     }

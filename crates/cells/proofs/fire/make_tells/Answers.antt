@@ -30,8 +30,8 @@ with-out-requires g c =
     let count = c.loop-t.invariant.few in
     omega arith
 
-pub conflict-at-conflict-requires : goal.conflict-at-conflict-requires
-conflict-at-conflict-requires g c =
+pub conflict_at-conflict-requires : goal.conflict_at-conflict-requires
+conflict_at-conflict-requires g c =
     let n = length c.args.table.now in
     let k = c.args.k in
     let i = nth_all (λ u. All (λ x. x < n) (reads u) × (u.target < n)) (tells k.form) c.loop-t.i c.in-Some.t (tells-inside n k c.requires) c.in-Some.ensures.tell in
@@ -47,12 +47,12 @@ returns-then-conflict g c =
     let T = table_of m c.loop-t.table in
     let T' = table_of m c.make-changed.new.table in
     record {
-      table = tells_stop_table m ps ts S c.loop-t.i T T' c.loop-t.out c.with-out.result c.in-Some.t c.make-changed.result c.in-Some.ensures.tell c.loop-t.invariant c.make-changed.ensures.table c.make-changed.ensures.change c.with-out.ensures.cells (sym c.if-conflict.true ∙ c.conflict-at-conflict.ensures);
-      cells = tells_stop_cells m ps ts S c.loop-t.i T T' c.loop-t.out c.with-out.result c.in-Some.t c.make-changed.result c.in-Some.ensures.tell c.loop-t.invariant c.make-changed.ensures.table c.make-changed.ensures.change c.with-out.ensures.cells (sym c.if-conflict.true ∙ c.conflict-at-conflict.ensures);
+      table = tells_stop_table m ps ts S c.loop-t.i T T' c.loop-t.out c.with-out.result c.in-Some.t c.make-changed.result c.in-Some.ensures.tell c.loop-t.invariant c.make-changed.ensures.table c.make-changed.ensures.change c.with-out.ensures.cells (sym c.if-conflict.true ∙ c.conflict_at-conflict.ensures);
+      cells = tells_stop_cells m ps ts S c.loop-t.i T T' c.loop-t.out c.with-out.result c.in-Some.t c.make-changed.result c.in-Some.ensures.tell c.loop-t.invariant c.make-changed.ensures.table c.make-changed.ensures.change c.with-out.ensures.cells (sym c.if-conflict.true ∙ c.conflict_at-conflict.ensures);
     }
 
-pub overflow-add-i : goal.overflow-add-i
-overflow-add-i g c = omega (arith, nth_below (tells c.args.k.form) c.loop-t.i c.in-Some.t c.in-Some.ensures.tell, tells-few c.args.k.form)
+pub overflow_add-i : goal.overflow_add-i
+overflow_add-i g c = omega (arith, nth_below (tells c.args.k.form) c.loop-t.i c.in-Some.t c.in-Some.ensures.tell, tells-few c.args.k.form)
 
 pub loop-t-smaller : goal.loop-t-smaller
 loop-t-smaller g c = omega (arith, nth_below (tells c.args.k.form) c.loop-t.i c.in-Some.t c.in-Some.ensures.tell)
@@ -62,7 +62,7 @@ loop-t-preserved g c =
     let m = g.K.Kind.model in
     let k = c.args.k in
     tells_more m (owned_by k.owner) (tells k.form) (table_of m c.args.table.now) c.loop-t.i (table_of m c.loop-t.table) (table_of m c.make-changed.new.table)
-    c.loop-t.out c.with-out.result c.in-Some.t c.make-changed.result c.in-Some.ensures.tell c.loop-t.invariant c.make-changed.ensures.table c.make-changed.ensures.change c.with-out.ensures.cells c.with-out.ensures.count (sym c.if-conflict.false ∙ c.conflict-at-conflict.ensures)
+    c.loop-t.out c.with-out.result c.in-Some.t c.make-changed.result c.in-Some.ensures.tell c.loop-t.invariant c.make-changed.ensures.table c.make-changed.ensures.change c.with-out.ensures.cells c.with-out.ensures.count (sym c.if-conflict.false ∙ c.conflict_at-conflict.ensures)
 
 pub returns : goal.returns
 returns g c =
@@ -73,6 +73,6 @@ returns g c =
     let S = table_of m c.args.table.now in
     let T = table_of m c.loop-t.table in
     record {
-      table = tells_all_table m ps ts S c.loop-t.i T c.loop-t.out c.in-default.ensures.tell c.loop-t.invariant;
-      cells = tells_all_cells m ps ts S c.loop-t.i T c.loop-t.out c.in-default.ensures.tell c.loop-t.invariant;
+      table = tells_all_table m ps ts S c.loop-t.i T c.loop-t.out c.in_default.ensures.tell c.loop-t.invariant;
+      cells = tells_all_cells m ps ts S c.loop-t.i T c.loop-t.out c.in_default.ensures.tell c.loop-t.invariant;
     }

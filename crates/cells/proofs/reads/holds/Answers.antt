@@ -12,5 +12,5 @@ returns-in-Above g c =
     let T = table_of m c.args.table.now in
     let fit = rw c.in-Above.is at c.requires in
     holds_above (lows m (facts T)) (highs m (facts T)) c.args.condition c.in-Above.a c.in-Above.d c.in-Above.b
-    {p = to_z w64 (of_z w64 c.high-at.result)} {q = to_z w64 (of_z w64 (to_z w64 (of_z w64 c.low-at.result) +ℤ to_z w64 (of_z w64 c.in-Above.d)))} c.in-Above.is
-    (omega (arith, ints, c.high-at.ensures.is)) (omega (arith, ints, c.low-at.ensures.is))
+    {p = to_z w64 (of_z w64 c.high_at.result)} {q = to_z w64 (of_z w64 (to_z w64 (of_z w64 c.low_at.result) +ℤ to_z w64 (of_z w64 c.in-Above.d)))} c.in-Above.is
+    (omega (arith, ints, c.high_at.ensures.is)) (omega (arith, ints, c.low_at.ensures.is))

@@ -5,4 +5,4 @@ use Rattle.cells.proofs.reads.tell_reasons.Goals as goal
 pub returns-in-Above : goal.returns-in-Above
 returns-in-Above g c =
     reasons_above (table_of g.K.Kind.model c.args.table.now) c.args.t c.in-Above.a c.in-Above.field-1 c.in-Above.b c.in-Above.is
-    c.saying-reasons-rest.ensures c.with-reasons.ensures c.with-reasons-in-Above.ensures
+    c.saying_reasons-rest.ensures c.with_reasons.ensures c.with_reasons-in-Above.ensures

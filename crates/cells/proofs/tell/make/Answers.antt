@@ -24,6 +24,6 @@ returns g c =
       table = make_made m (owned_by c.args.owner) t (table_of m c.args.table.now) c.state-g.result (tags_of c.union-s.result)
           (lt-ltb t.target (length c.args.table.now) c.requires.fit.target) c.tell.ensures.table c.if-not-holds.ensures
           (c.state-g.ensures ∙ ap m.stated c.said.ensures)
-          (c.union-s.ensures ∙ ap₂ together c.owned.ensures c.tell-reasons.ensures);
+          (c.union-s.ensures ∙ ap₂ together c.owned.ensures c.tell_reasons.ensures);
       change = c.tell.ensures.change;
     }

@@ -14,7 +14,7 @@ loop-number-preserved c =
     let s = naming c.args.constraints.now c.args.cell in
     let i = c.loop-number.number in
     let here : c.names.result ≡ s i = c.names.ensures ∙ naming-read c.args.constraints.now c.args.cell i c.index-constraints-number.result c.loop-number-test.true c.index-constraints-number.is in
-    c.in-ok-add-if.ensures
+    c.in_ok-add_if.ensures
     ∙ ap (λ b. vec_items c.loop-number.items ++ cond b (i ∷ []) []) here
     ∙ ap (λ r. r ++ cond (s i) (i ∷ []) []) c.loop-number.invariant
     ∙ append_assoc (vec_items c.args.items.now) (listed s i) (cond (s i) (i ∷ []) [])

@@ -8,18 +8,18 @@ use Rattle.wakes.specs.Parts.{Laid}
 use Rattle.wakes.proofs.Naming.{naming_none, listed_nobody}
 use Rattle.wakes.proofs.index.Index.new.Goals as goal
 
-pub invariant-of-result : goal.invariant-of-result
-invariant-of-result c =
+pub invariant_of-result : goal.invariant_of-result
+invariant_of-result c =
     let plan = c.args.plan.now in
-    let ks = vec_items c.in-ok-constraints.constraints in
-    let cells = c.cell-count-cells.result in
-    let table = c.in-ok-table.table in
-    let same : ks ≡ (planned plan).constraints = c.in-ok-constraints.ensures in
+    let ks = vec_items c.in_ok-constraints.constraints in
+    let cells = c.cell_count-cells.result in
+    let table = c.in_ok-table.table in
+    let same : ks ≡ (planned plan).constraints = c.in_ok-constraints.ensures in
     let few : length ks ≤ 512 = omega (arith, ap length same, plan.few_constraints, plan.constraints.ok.0) in
     let laid : Laid (naming ks) (length ks) cells (vec_items table.starts) (vec_items table.items) =
-    subst (λ (r : List Constraint). Laid (naming r) (length r) cells (vec_items table.starts) (vec_items table.items)) c.deref.ensures.value c.in-ok-table.ensures in
-    let count : vec_len plan.cells ≡ cells = omega (arith, c.cell-count-cells.ensures, plan.cells.ok.0) in
+    subst (λ (r : List Constraint). Laid (naming r) (length r) cells (vec_items table.starts) (vec_items table.items)) c.deref.ensures.value c.in_ok-table.ensures in
+    let count : vec_len plan.cells ≡ cells = omega (arith, c.cell_count-cells.ensures, plan.cells.ok.0) in
     let outside : (x : ℕ) → cells ≤ x → listed (naming ks x) (length ks) ≡ [] =
     λ x l. ap (λ r. listed (naming r x) (length r)) same
     ∙ listed_nobody (naming (planned plan).constraints x) (length (planned plan).constraints) (naming_none (vec_len plan.cells) (vec_len plan.premises) x (planned plan).constraints (omega (arith, count)) plan.known) in
-    (few, (laid.long, (laid.order, (laid.within, (laid.part, (outside, tt))))))
+    record { few = few; long = laid.long; order = laid.order; within = laid.within; part = laid.part; outside = outside }

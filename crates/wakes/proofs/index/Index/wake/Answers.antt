@@ -18,8 +18,8 @@ index-requires g c =
     let in' = part-inside (constraints_in c.args.self.now) c.args.cell c.part-part.result.now c.part-part.ensures c.loop-number.number-index c.loop-number-test.true in
     omega (arith, in', c.args.self.now.constraints.ok.0)
 
-pub put-if-requires : goal.put-if-requires
-put-if-requires g c =
+pub put_if-requires : goal.put_if-requires
+put_if-requires g c =
     let in' = part-inside (constraints_in c.args.self.now) c.args.cell c.part-part.result.now c.part-part.ensures c.loop-number.number-index c.loop-number-test.true in
     omega (arith, in', c.args.self.now.few)
 
@@ -30,8 +30,8 @@ loop-number-preserved g c =
     let at = c.loop-number.number-index in
     let in' = part-inside ks c.args.cell xs c.part-part.ensures at c.loop-number-test.true in
     let passes = nth_passes (standing (holds c.args.force)) ks ks (get_or xs at 0) c.index.result.now refl in' c.index.ensures in
-    waking_more (λ j. among j (take (at + 1) xs)) (g.A.Agenda.waits c.put-if.new.agenda) (get_or xs at 0) c.is-in-force.result c.loop-number.invariant (c.is-in-force.ensures ∙ passes)
-    (among_more xs at c.loop-number-test.true) c.put-if.ensures
+    waking_more (λ j. among j (take (at + 1) xs)) (g.A.Agenda.waits c.put_if.new.agenda) (get_or xs at 0) c.is_in_force.result c.loop-number.invariant (c.is_in_force.ensures ∙ passes)
+    (among_more xs at c.loop-number-test.true) c.put_if.ensures
 
 pub returns : goal.returns
 returns g c =

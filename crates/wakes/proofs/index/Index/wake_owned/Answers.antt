@@ -10,15 +10,15 @@ pub loop-i-init : goal.loop-i-init
 loop-i-init g c =
     waking_none (g.A.Agenda.waits c.args.agenda.now) (λ j. ltb j 0) (λ j. belongs c.args.premise (slice_get (constraints_in c.args.self.now) j)) below_zero
 
-pub put-if-requires : goal.put-if-requires
-put-if-requires g c = omega (arith, c.args.self.now.few, ap length c.deref-k-items.ensures.value, c.loop-i-test.true)
+pub put_if-requires : goal.put_if-requires
+put_if-requires g c = omega (arith, c.args.self.now.few, ap length c.deref-k-items.ensures.value, c.loop-i-test.true)
 
 pub loop-i-preserved : goal.loop-i-preserved
 loop-i-preserved g c =
     let ks = constraints_in c.args.self.now in
     let i = c.loop-i.i in
     let passes = nth_passes (belongs c.args.premise) ks c.deref-k-items.result.now i c.k-item.result c.deref-k-items.ensures.value c.loop-i-test.true c.k-item.is in
-    waking_more (λ j. ltb j (i + 1)) (g.A.Agenda.waits c.put-if.new.agenda) i c.is-owned-by.result c.loop-i.invariant (c.is-owned-by.ensures ∙ passes) (below_more i) c.put-if.ensures
+    waking_more (λ j. ltb j (i + 1)) (g.A.Agenda.waits c.put_if.new.agenda) i c.is_owned_by.result c.loop-i.invariant (c.is_owned_by.ensures ∙ passes) (below_more i) c.put_if.ensures
 
 pub returns : goal.returns
 returns g c =

@@ -3,8 +3,8 @@ use Rattle.std.proofs.Common.{◌+◌, vec_items, arith}
 use Rattle.std.proofs.lemmas.List.{get_or_read}
 use Rattle.wakes.proofs.table.Table.part.Goals as goal
 
-pub slice-bounds-result-count : goal.slice-bounds-result-count
-slice-bounds-result-count c =
+pub slice_bounds-result-count : goal.slice_bounds-result-count
+slice_bounds-result-count c =
     let starts = vec_items c.args.self.now.starts in
     let in' = c.requires.inside in
     let ok = c.args.self.now.starts.ok.0 in
