@@ -13,17 +13,17 @@ abbrev head_name : goal.After-push → Name
 head_name c = record { column = c.args.head.column; bytes = c.args.head.name.now }
 
 abbrev other_name : goal.After-push → Name
-other_name c = record { column = c.in-ok-name.column; bytes = c.in-ok-name.name.now }
+other_name c = record { column = c.in_ok-name.column; bytes = c.in_ok-name.name.now }
 
-pub returns-in-err-e : goal.returns-in-err-e
-returns-in-err-e c =
-    let r = err_from_is_err_and c.from-residual-in-err-e.result c.from-residual-in-err-e.ensures.1 in
-    rw (r.1, r.2) (λ o k. apart-short c.in-ok-d.ensures c.in-ok-name.ensures o _ k _ c.in-err-e.ensures)
+pub returns-in_err-e : goal.returns-in_err-e
+returns-in_err-e c =
+    let r = err_from_is_err_and c.from_residual-in_err-e.result c.from_residual-in_err-e.ensures.1 in
+    rw (r.1, r.2) (λ o k. apart-short c.in_ok-d.ensures c.in_ok-name.ensures o _ k _ c.in_err-e.ensures)
 
-pub returns-in-err-end-at : goal.returns-in-err-end-at
-returns-in-err-end-at c =
-    let r = err_from_is_err_and c.from-residual-in-err-end-at.result c.from-residual-in-err-end-at.ensures.1 in
-    rw (r.1, r.2) (λ o k. apart-long c.in-ok-d.ensures c.in-ok-name.ensures o _ k _ c.in-ok-e.ensures c.in-err-end-at.ensures)
+pub returns-in_err-end_at : goal.returns-in_err-end_at
+returns-in_err-end_at c =
+    let r = err_from_is_err_and c.from_residual-in_err-end_at.result c.from_residual-in_err-end_at.ensures.1 in
+    rw (r.1, r.2) (λ o k. apart-long c.in_ok-d.ensures c.in_ok-name.ensures o _ k _ c.in_ok-e.ensures c.in_err-end_at.ensures)
 
 pub returns : goal.returns
 returns c =
@@ -31,7 +31,7 @@ returns c =
     (λ o k. (
       _,
       (
-        apart-read c.in-ok-d.ensures c.in-ok-name.ensures o _ k c.in-ok-e.ensures c.in-ok-end-at.ensures,
-        (names_two (texts c) (head_name c) (other_name c) _ _ _ c.cell-named-a.ensures.after c.cell-named-b.ensures.after, apart_made (texts c) _ (head_name c) (other_name c) _ _ _ _ c.cell-named-a.ensures.after c.cell-named-a.ensures.cell c.cell-named-b.ensures.cell),
+        apart-read c.in_ok-d.ensures c.in_ok-name.ensures o _ k c.in_ok-e.ensures c.in_ok-end_at.ensures,
+        (names_two (texts c) (head_name c) (other_name c) _ _ _ c.cell_named-a.ensures.after c.cell_named-b.ensures.after, apart_made (texts c) _ (head_name c) (other_name c) _ _ _ _ c.cell_named-a.ensures.after c.cell_named-a.ensures.cell c.cell_named-b.ensures.cell),
       ),
     ))

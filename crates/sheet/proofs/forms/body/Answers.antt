@@ -14,8 +14,8 @@ pub returns-in-Apart : goal.returns-in-Apart
 returns-in-Apart c =
     body-form after_apart c.apart.result _ _ _ c.in-Some.head.after _ _ _ _ (head_step c.args.words.now c.args.at _ c.in-Some.head.after _ _ c.in-Some.ensures.1 c.in-Apart.is) c.apart.ensures
 
-pub returns-in-default : goal.returns-in-default
-returns-in-default c = λ o _. head-wrong c.args.words.now c.args.at _ _ _ c.in-Some.ensures.1 c.in-default.not-In c.in-default.not-Align c.in-default.not-Apart o
+pub returns-in_default : goal.returns-in_default
+returns-in_default c = λ o _. head-wrong c.args.words.now c.args.at _ _ _ c.in-Some.ensures.1 c.in_default.not-In c.in_default.not-Align c.in_default.not-Apart o
 
 pub returns-in-None : goal.returns-in-None
-returns-in-None c = body-bound c.at-most.result _ _ _ _ _ _ c.in-None.ensures c.at-most.ensures
+returns-in-None c = body-bound c.at_most.result _ _ _ _ _ _ c.in-None.ensures c.at_most.ensures

@@ -5,10 +5,10 @@ use Rattle.sheet.proofs.line.new_name.Goals as goal
 
 pub returns : goal.returns
 returns c = record {
-  new = record { column = c.in-ok-name.column; bytes = c.in-ok-name.name.now };
+  new = record { column = c.in_ok-name.column; bytes = c.in_ok-name.name.now };
   column_is = refl;
   length_is = refl;
-  near = name-near c.requires c.in-ok-name.ensures;
-  goes = λ f. c.in-ok-name.ensures.goes (λ n. whole (f n)) ∙ c.in-ok-end-at.ensures _;
-  leaves = c.note-new.ensures;
+  near = name-near c.requires c.in_ok-name.ensures;
+  goes = λ f. c.in_ok-name.ensures.goes (λ n. whole (f n)) ∙ c.in_ok-end_at.ensures _;
+  leaves = c.note_new.ensures;
 }

@@ -18,8 +18,8 @@ returns-else-words-ge2 c =
           plain-name c.args.words.now (omega arith) _ (ap meant c.in-Name.is) (begins-end Colon c.args.words.now 1 (omega arith))
     ]
 
-pub returns-in-default-keyword : goal.returns-in-default-keyword
-returns-in-default-keyword c = plain-reserved c.args.words.now (omega arith) _ (ap meant c.in-Reserved.is) c.in-default-keyword.not-Cell c.in-default-keyword.not-Premise
+pub returns-in_default-keyword : goal.returns-in_default-keyword
+returns-in_default-keyword c = plain-reserved c.args.words.now (omega arith) _ (ap meant c.in-Reserved.is) c.in_default-keyword.not-Cell c.in_default-keyword.not-Premise
 
-pub returns-in-default : goal.returns-in-default
-returns-in-default c = plain_other c.args.words.now (omega arith) c.in-default.not-Name c.in-default.not-Reserved
+pub returns-in_default : goal.returns-in_default
+returns-in_default c = plain_other c.args.words.now (omega arith) c.in_default.not-Name c.in_default.not-Reserved

@@ -13,8 +13,8 @@ pub returns-in-Reserved : goal.returns-in-Reserved
 returns-in-Reserved c =
     (omega arith, head-here _ _ _ _ c.if-at-words.false c.if-at-words-2.false (ap meant c.in-Name.is) (ap meant c.in-Reserved.is))
 
-pub returns-in-default-token : goal.returns-in-default-token
-returns-in-default-token c = headless_second _ _ _ c.if-at-words.false c.if-at-words-2.false (ap meant c.in-Name.is) c.in-default-token.not-Reserved
+pub returns-in_default-token : goal.returns-in_default-token
+returns-in_default-token c = headless_second _ _ _ c.if-at-words.false c.if-at-words-2.false (ap meant c.in-Name.is) c.in_default-token.not-Reserved
 
-pub returns-in-default : goal.returns-in-default
-returns-in-default c = headless_first _ _ c.if-at-words.false c.in-default.not-Name
+pub returns-in_default : goal.returns-in_default
+returns-in_default c = headless_first _ _ c.if-at-words.false c.in_default.not-Name

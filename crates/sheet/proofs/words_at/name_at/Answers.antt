@@ -11,5 +11,5 @@ returns-then-at-words c = λ f. parse-end _ _ c.if-at-words.true (rest (name_nex
 pub returns-in-Name : goal.returns-in-Name
 returns-in-Name c = record { here = c.if-at-words.false; stands = name-here _ _ _ c.if-at-words.false (ap meant c.in-Name.is); goes = λ f. rest_at _ _ _ (name_next f) c.if-at-words.false (ap meant c.in-Name.is) }
 
-pub returns-in-default : goal.returns-in-default
-returns-in-default c = λ f. name-wrong _ _ c.if-at-words.false f c.in-default.not-Name
+pub returns-in_default : goal.returns-in_default
+returns-in_default c = λ f. name-wrong _ _ c.if-at-words.false f c.in_default.not-Name

@@ -11,5 +11,5 @@ returns-then-at-words c = λ f. parse-end _ _ c.if-at-words.true (rest (number_n
 pub returns-in-Number : goal.returns-in-Number
 returns-in-Number c = record { here = c.if-at-words.false; goes = λ f. rest_at _ _ _ (number_next f) c.if-at-words.false (ap meant c.in-Number.is) }
 
-pub returns-in-default : goal.returns-in-default
-returns-in-default c = λ f. number-wrong _ _ c.if-at-words.false f c.in-default.not-Number
+pub returns-in_default : goal.returns-in_default
+returns-in_default c = λ f. number-wrong _ _ c.if-at-words.false f c.in_default.not-Number

@@ -12,8 +12,8 @@ pub returns-in-To : goal.returns-in-To
 returns-in-To c =
     record { here = c.if-at-words.false; goes = λ f. rest_at _ _ _ (to_next f) c.if-at-words.false (ap meant c.in-Reserved.is ∙ ap reserved c.in-To.is) }
 
-pub returns-in-default-keyword : goal.returns-in-default-keyword
-returns-in-default-keyword c = λ f. to_other _ _ c.if-at-words.false f _ (ap meant c.in-Reserved.is) c.in-default-keyword.not-To
+pub returns-in_default-keyword : goal.returns-in_default-keyword
+returns-in_default-keyword c = λ f. to_other _ _ c.if-at-words.false f _ (ap meant c.in-Reserved.is) c.in_default-keyword.not-To
 
-pub returns-in-default : goal.returns-in-default
-returns-in-default c = λ f. to_wrong _ _ c.if-at-words.false f c.in-default.not-Reserved
+pub returns-in_default : goal.returns-in_default
+returns-in_default c = λ f. to_wrong _ _ c.if-at-words.false f c.in_default.not-Reserved
