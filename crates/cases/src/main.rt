@@ -72,7 +72,7 @@ fn run_case(
     print_read(
         rt,
         plan,
-        shown == b"whole",
+        shown == b"whole".as_slice(),
         chip.as_slice(),
         project.as_slice(),
     )

@@ -15,6 +15,7 @@ use sheet::sheets::{ReadError, read};
 use show::ShownPlan;
 use source::{Pointed, Sheet, Sheets, line_of};
 use std::alloc::AllocError;
+use std::process::ExitCode;
 use std::{env, fs, io};
 
 // Why the program ends with status 1: something that was told, something that went wrong outside, or want of memory.
@@ -153,16 +154,17 @@ fn run(rt: &HostRuntime) -> Result<(), Failure> {
     }
 }
 
-fn main(rt: HostRuntime) -> Result<(), Failure> {
+fn main(rt: HostRuntime) -> ExitCode {
     let ended = run(&rt);
     match &ended {
+        Ok(()) => return ExitCode::SUCCESS,
         Err(Failure::Outside(error)) => {
             let _ = eprintln!(rt; "placer: {error}");
         }
         Err(Failure::Memory) => {
             let _ = rt.eprintln("placer: there is not enough memory");
         }
-        _ => {}
+        Err(Failure::Told) => {}
     }
-    ended
+    ExitCode::FAILURE
 }
