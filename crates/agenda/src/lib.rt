@@ -1,4 +1,6 @@
 // Agendas: the constraints that wait to be fired, and the order in which they are taken.
+#![tactic(auto)]
+
 pub mod drain;
 pub mod lowest;
 pub mod queue;

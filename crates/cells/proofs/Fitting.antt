@@ -1,6 +1,6 @@
 -- A constraint that can be fired names cells of the table, and its tells fit it.
 use Rattle.std.proofs.Common.{◌≡◌, ℕ, ◌<◌, true, ◌&&◌, ltb, List, [], ◌∷◌, Some}
-use Rattle.std.specs.List.{AllByRecursion as All}
+use Rattle.std.specs.List.{AllByRecursion}
 use Rattle.std.proofs.lemmas.Bool.{ltb-true}
 use Rattle.statements.proofs.Tests.{and_left, and_right}
 use Rattle.plan.specs.Forms.{named}
@@ -30,12 +30,12 @@ module _ (n : ℕ) (k : Constraint) (h : known n 32 k ≡ true) where
   known-ranged = and_right (owner_known 32 k.owner) (ranged k.form) rest
 
   -- A tell of the constraint that keeps its distances in U fits.
-  pub tell_fits : (t : Tell) → All (λ x. x < n) (reads t) × (t.target < n) → Near (Some t) → FitTell n t
+  pub tell_fits : (t : Tell) → AllByRecursion (λ x. x < n) (reads t) × (t.target < n) → Near (Some t) → FitTell n t
   tell_fits t i near = record {
     target = i.1;
     condition = (all_left (λ x. x < n) (condition_reads t.condition) (saying_reads t.saying) i.0, near.0);
     saying = (all_right (λ x. x < n) (condition_reads t.condition) (saying_reads t.saying) i.0, near.1);
   }
 
-  pub tells-inside : All (λ t. All (λ x. x < n) (reads t) × (t.target < n)) (tells k.form)
+  pub tells-inside : AllByRecursion (λ t. AllByRecursion (λ x. x < n) (reads t) × (t.target < n)) (tells k.form)
   tells-inside = tells_closed (λ x. x < n) k.form known-inside

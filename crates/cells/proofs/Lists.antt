@@ -1,6 +1,6 @@
 -- A list gone through by its places, and the first of a list.
 use Rattle.std.proofs.Common.{◌≡◌, ℕ, zero, suc, ◌+◌, ◌<◌, ◌≤◌, List, [], ◌∷◌, length, get_or, take, drop, Some, None, refl, ap, subst, add-one, arith}
-use Rattle.std.specs.List.{slice_get, AllByRecursion as All}
+use Rattle.std.specs.List.{slice_get, AllByRecursion}
 
 -- ---- a walk
 
@@ -23,7 +23,7 @@ nth_below [] i x e = let z : ◌≡◌ {A = ℕ} 0 1 = cc in absurd (omega arith
 nth_below (y ∷ ys) zero x e = omega arith
 nth_below (y ∷ ys) (suc i) x e = let h = nth_below ys i x e in omega arith
 
-pub nth_all : {A : Type 0} (P : A → Type 0) (xs : List A) (i : ℕ) (x : A) → All P xs → Some x ≡ slice_get xs i → P x
+pub nth_all : {A : Type 0} (P : A → Type 0) (xs : List A) (i : ℕ) (x : A) → AllByRecursion P xs → Some x ≡ slice_get xs i → P x
 nth_all P [] i x h e = let z : ◌≡◌ {A = ℕ} 0 1 = cc in absurd (omega arith)
 nth_all P (y ∷ ys) zero x h e = let z : y ≡ x = cc in subst P z h.0
 nth_all P (y ∷ ys) (suc i) x h e = nth_all P ys i x h.1 e

@@ -5,7 +5,6 @@ use Rattle.std.proofs.lemmas.List.{get_or-set_same, get_or-set_other}
 use Rattle.std.proofs.lemmas.Bool.{cond_both, eqb-true, eq-eqb}
 use Rattle.statements.proofs.Tests.{test_clash}
 use Rattle.facts.specs.Model.{Model}
-use Rattle.telling.specs.Tables as tables
 use Rattle.telling.specs.Tables.{upd, start_cell}
 use Rattle.cells.specs.declared.cell.Cell.{Cell}
 use Rattle.cells.specs.Meaning.{cell_of, table_of}

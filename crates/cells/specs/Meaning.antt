@@ -1,6 +1,6 @@
 -- What reasons, cells and lent tables of them mean, and which tells fit a table of a length.
 use Rattle.std.specs.Prelude.{ℕ, ◌<◌, List, map, slice_index_or}
-use Rattle.std.specs.List.{AllByRecursion as All}
+use Rattle.std.specs.List.{AllByRecursion}
 use Rattle.facts.specs.Model.{Model}
 use Rattle.forms.specs.Tells.{condition_reads, saying_reads, NearCondition, NearSaying}
 use Rattle.forms.specs.declared.tell.Condition.{Condition}
@@ -29,7 +29,7 @@ table_of m xs x = slice_index_or (map cell_of xs) x (start_cell m)
 
 -- Each of the cells is one of the first n.
 abbrev pub Inside : ℕ → List ℕ → Type 0
-Inside n xs = All (λ x. x < n) xs
+Inside n xs = AllByRecursion (λ x. x < n) xs
 
 -- The condition reads the first n cells, and its distance is a number of U.
 abbrev pub FitCondition : ℕ → Condition → Type 0

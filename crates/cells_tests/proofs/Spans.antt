@@ -1,7 +1,7 @@
 -- Firing over spans, tell by tell.
 use Rattle.std.proofs.Common.{◌≡◌, ℕ, Bool, true, false, cond, eqb, List, [], ◌∷◌, sym, refl, ap, ◌∙◌, ap₂}
 use mathlib.Core.Path.{fun_ext}
-use Rattle.std.specs.List.{AllByRecursion as All}
+use Rattle.std.specs.List.{AllByRecursion}
 use Rattle.std.proofs.lemmas.Bool.{cond-true, cond-false, or_from}
 use Rattle.statements.proofs.Tests.{test_clash, test_cases, inside_made}
 use Rattle.facts.specs.Derived.{none, tidy, told}
@@ -36,7 +36,7 @@ span-some e = none_no span_model span_laws (Within e) e.lo (inside_made e.lo e.h
 pub span_empty : none span_model Empty ≡ true
 span_empty = test_cases (none span_model Empty) (λ e. e) (λ e. test_clash (low-allowed span_model span_laws Empty e) refl)
 
-pub any_no : {A : Type 0} (p : A → Bool) (xs : List A) → All (λ x. p x ≡ false) xs → any p xs ≡ false
+pub any_no : {A : Type 0} (p : A → Bool) (xs : List A) → AllByRecursion (λ x. p x ≡ false) xs → any p xs ≡ false
 unfolding any
 any_no p [] h = refl
 any_no p (x ∷ xs) h = or_from (p x) (any p xs) h.0 (any_no p xs h.1)
@@ -89,7 +89,7 @@ module _ (ps : Premises) where
         ap facts (cond-true (none span_model (T' t.target).fact) T' (after_tells span_model ps ts T') (ap (λ (χ : ℕ → Span). none span_model (χ t.target)) h ∙ gone)) ∙ h
 
 -- Where no cell is in conflict a firing is its tells.
-pub fired-tells : (k : Constraint) (T : Table Span) (χ : ℕ → Span) → All (λ x. none span_model (T x).fact ≡ false) (named k.form) → facts (after_tells span_model (owned_by k.owner) (tells k.form) T) ≡ χ → facts (fired span_model k T) ≡ χ
+pub fired-tells : (k : Constraint) (T : Table Span) (χ : ℕ → Span) → AllByRecursion (λ x. none span_model (T x).fact ≡ false) (named k.form) → facts (after_tells span_model (owned_by k.owner) (tells k.form) T) ≡ χ → facts (fired span_model k T) ≡ χ
 unfolding fired
 fired-tells k T χ some e =
     ap facts (cond-false (any_in_conflict span_model (facts T) (named k.form)) _ (after_tells span_model (owned_by k.owner) (tells k.form) T) (any_no (λ x. none span_model (T x).fact) (named k.form) some)) ∙ e

@@ -1,10 +1,10 @@
 // The worked examples of firing, as one theorem.
-ghost use Rattle.std.specs.List.{AllByRecursion as All};
+ghost use Rattle.std.specs.List.{AllByRecursion};
 ghost use Rattle.cells_tests.specs.Examples.{Holds, examples};
 
 /// Each worked example holds of the definitions that the contracts of firing use.
 pub fn examples_hold() -> u8
-    ensures { All Holds examples }
+    ensures { AllByRecursion Holds examples }
 {
     0
 }

@@ -1,4 +1,6 @@
 // What is wrong with a sheet, and where.
+#![tactic(auto)]
+
 ghost use Rattle.std.specs.Prelude.{◌≡◌};
 ghost use Rattle.faults.specs.Faults.{number_of, layer_of};
 

@@ -1,4 +1,5 @@
 // The lines of a sheet as trees: what each word may be followed by, and what a refusal means.
+#![tactic(auto)]
 
 ghost use Rattle.grammar.specs.Examples.{ReadLines, RefusedLines};
 ghost use Rattle.grammar.specs.Reading.{Reads, Nests, OneReading, WrongWords, ShortLines, DeepWords};

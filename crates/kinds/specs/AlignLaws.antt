@@ -6,7 +6,7 @@ use Rattle.std.proofs.Math.Bridge.{le_prop}
 use Rattle.std.proofs.Math.Nat.{add-mod_right}
 use Rattle.std.proofs.lemmas.Int.{ints, by_lt_z}
 use Rattle.std.proofs.lemmas.Bool.{eqb-true, eqb-false, eq-eqb, leb-true, leb-false, cond-true, cond-false, cond_both}
-use Rattle.statements.specs.Aligned.{aligned, rest}
+use Rattle.statements.specs.Aligned.{aligned}
 use Rattle.statements.specs.Between.{between}
 use Rattle.statements.specs.Numbers.{InU, Within}
 use Rattle.statements.specs.Search.{lowest, highest}

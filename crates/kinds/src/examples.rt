@@ -1,10 +1,10 @@
 // The worked examples, as one theorem.
-ghost use Rattle.std.specs.List.{AllByRecursion as All};
+ghost use Rattle.std.specs.List.{AllByRecursion};
 ghost use Rattle.kinds.specs.Examples.{Holds, examples};
 
 /// Each worked example holds of the definitions that the contracts use.
 pub fn examples_hold() -> u8
-    ensures { All Holds examples }
+    ensures { AllByRecursion Holds examples }
 {
     0
 }

@@ -1,4 +1,6 @@
 // The base kinds of fact, Span and Align, and the full kind made of both.
+#![tactic(auto)]
+
 pub mod align;
 pub mod ends;
 pub mod examples;

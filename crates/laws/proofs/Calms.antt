@@ -1,7 +1,7 @@
 -- A constraint in force that does not wait has nothing new to say.
 use Rattle.std.proofs.Common.{◌≡◌, ℕ, Bool, true, false, not, ◌&&◌, eqb, Some, Option, sym, refl, ap, ◌∙◌, subst}
 use mathlib.Core.Path.{fun_ext}
-use Rattle.std.specs.List.{slice_get, AllByRecursion as All}
+use Rattle.std.specs.List.{slice_get, AllByRecursion}
 use Rattle.std.proofs.ByRecursion.{All-weaker}
 use Rattle.std.proofs.lemmas.Bool.{cond-true, eqb-true, or_parts, not-false}
 use Rattle.statements.proofs.Tests.{test_clash, test_cases}
@@ -61,7 +61,7 @@ module _ {F : Type 0} (m : Model F) (l : Laws m) where
         let T' = after_taken m N force (slice_get N.constraints j) T in
         let w = without j b.waits in
         let r = woken_no force (changed m T T') w i k at inf e in
-        let near : All (λ x. (T x).fact ≡ (T' x).fact) (named k.form) =
+        let near : AllByRecursion (λ x. (T x).fact ≡ (T' x).fact) (named k.form) =
         All-weaker (λ x. changed m T T' x ≡ false) (λ x. (T x).fact ≡ (T' x).fact) (unchanged_fact T T') (named k.form) (any_none (changed m T T') (named k.form) r.1) in
         test_cases {P = Calm m (facts T') k.form} (eqb i j)
         (λ ij.

@@ -1,6 +1,6 @@
 -- Over every history, what each answer claims holds.
 use Rattle.std.proofs.Common.{◌≡◌, ℕ, ◌≤◌, true, false, List, [], ◌∷◌, length, Some, None, Option, sym, refl, ap, ◌∙◌, subst, inl, inr, arith}
-use Rattle.std.specs.List.{AllByRecursion as All}
+use Rattle.std.specs.List.{AllByRecursion}
 use Rattle.std.proofs.ByRecursion.{All-weaker}
 use Rattle.std.proofs.lemmas.Bool.{cond-true, cond-false, not-false}
 use Rattle.statements.proofs.Tests.{test_clash, test_cases}
@@ -54,13 +54,13 @@ module _ {F : Type 0} (m : Model F) (l : Laws m) (N : Net) (ok : Planned N) wher
 
   -- What holds of the state after some events.
   pub record Holds (es : List (Event F)) (s : State F) : Type 0 where
-    pub keeps : All (Known es) s.kept
+    pub keeps : AllByRecursion (Known es) s.kept
     pub apart : Apart s.kept
     pub few_kept : length s.kept ≤ 64
     pub live : s.cleared ≡ true → s.trail ≡ None → Live m l N Placed (λ v p. p) s.force [] s.board × Tabled m l N s.board.table
     pub searching : (t : Trail) → s.trail ≡ Some t → Sound m l N ok s.force (record { board = s.board; trail = t })
 
-  known_later : (e : Event F) (es : List (Event F)) (ks : List Premises) → All (Known es) ks → All (Known (e ∷ es)) ks
+  known_later : (e : Event F) (es : List (Event F)) (ks : List Premises) → AllByRecursion (Known es) ks → AllByRecursion (Known (e ∷ es)) ks
   known_later e es ks h = All-weaker (Known es) (Known (e ∷ es)) (λ r k. (k.0, inr k.1)) ks h
 
   -- ---- what is claimed of an event
@@ -114,7 +114,7 @@ module _ {F : Type 0} (m : Model F) (l : Laws m) (N : Net) (ok : Planned N) wher
 
   -- What is kept after a run is known, apart and few.
   run-kept : (es : List (Event F)) (s s' : State F) (c : Call) (o : Outcome) (n : ℕ) → s'.force ≡ s.force → OnConflict (ConflictBoard m l N ok s.force) o → Holds es s →
-      All (Known (event s c (ran o n) s' ∷ es)) (keep_run o s.kept) × Apart (keep_run o s.kept) × (length (keep_run o s.kept) ≤ 64)
+      AllByRecursion (Known (event s c (ran o n) s' ∷ es)) (keep_run o s.kept) × Apart (keep_run o s.kept) × (length (keep_run o s.kept) ≤ 64)
   run-kept es s s' c quiet n same q h = (known_later (event s c (ran quiet n) s') es s.kept h.keeps, h.apart, h.few_kept)
   run-kept es s s' c (conflict r) n same q h =
       let e = event s c (ran (conflict r) n) s' in (
@@ -149,7 +149,7 @@ module _ {F : Type 0} (m : Model F) (l : Laws m) (N : Net) (ok : Planned N) wher
       on_none tired q = tt
 
   seek-kept : (es : List (Event F)) (s s' : State F) (c : Call) (o : Finding) (n : ℕ) → s'.force ≡ s.force → OnNone (Vain m l N ok s.force) o → Holds es s →
-      All (Known (event s c (sought o n) s' ∷ es)) (keep_seek o s.kept) × Apart (keep_seek o s.kept) × (length (keep_seek o s.kept) ≤ 64)
+      AllByRecursion (Known (event s c (sought o n) s' ∷ es)) (keep_seek o s.kept) × Apart (keep_seek o s.kept) × (length (keep_seek o s.kept) ≤ 64)
   seek-kept es s s' c found n same q h = (known_later (event s c (sought found n) s') es s.kept h.keeps, h.apart, h.few_kept)
   seek-kept es s s' c (none_left r) n same q h =
       let e = event s c (sought (none_left r) n) s' in (
@@ -293,7 +293,7 @@ module _ {F : Type 0} (m : Model F) (l : Laws m) (N : Net) (ok : Planned N) wher
   history_right (made s h) = (
     tt,
     record {
-      keeps = subst (All (Known [])) (sym h.none_kept) tt;
+      keeps = subst (AllByRecursion (Known [])) (sym h.none_kept) tt;
       apart = subst Apart (sym h.none_kept) tt;
       few_kept = subst (λ (z : List Premises). length z ≤ 64) (sym h.none_kept) (omega arith);
       live = λ c _. test_clash c h.not_cleared;

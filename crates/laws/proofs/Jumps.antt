@@ -1,6 +1,6 @@
 -- Jumps and guesses keep what holds of a search.
-use Rattle.std.proofs.Common.{◌≡◌, ℕ, ◌<◌, ◌≤◌, true, false, not, ◌&&◌, eqb, leb, ◌⊎◌, ◌∷◌, length, ℤ, pos, ◌+ℤ◌, ◌≤ℤ◌, sym, ap, ◌∙◌, subst, ⊎_elim, arith}
-use Rattle.std.specs.List.{AllByRecursion as All}
+use Rattle.std.proofs.Common.{◌≡◌, ℕ, ◌<◌, true, false, not, ◌&&◌, eqb, leb, ◌∷◌, length, ℤ, pos, ◌+ℤ◌, ◌≤ℤ◌, sym, ap, ◌∙◌, subst, ⊎_elim, arith}
+use Rattle.std.specs.List.{AllByRecursion}
 use Rattle.std.proofs.ByRecursion.{All-weaker, All-push}
 use Rattle.std.proofs.lemmas.Int.{ints, by_lt_z}
 use Rattle.std.proofs.lemmas.Bool.{cond_both, cond-false, cases_lt, cases_eq, and_parts, and_from, not-true, le-leb, eqb-true, eq-eqb, ltb-true, lt-ltb}
@@ -150,7 +150,7 @@ module _ {F : Type 0} (m : Model F) (l : Laws m) (N : Net) (Sort : Placement →
         let w = q.board.waits in
         let T₁ = reset m back T in
         let T₂ = after_words m (words t') T₁ in
-        let ws : All (TrueWord m l N Sort placed force t') (words t') = words-true m l N Sort placed force t' t' (sub_refl t') jump_true in
+        let ws : AllByRecursion (TrueWord m l N Sort placed force t') (words t') = words-true m l N Sort placed force t' t' (sub_refl t') jump_true in
         let good : Good m l N Sort placed force t' T₂ = after_words_good m l N Sort placed force t' (words t') T₁ ws reset_good in
         let shorter = before_shorter g t (c, n) top.guess_is in
         let longer = forcing-length c (n +ℤ pos 1) (without_guess g R) t₀ in

@@ -1,6 +1,6 @@
 -- The keeping rule keeps what holds of each conflict, keeps conflicts apart, and at most 64.
-use Rattle.std.proofs.Common.{◌≡◌, suc, ◌+◌, ◌≤◌, Bool, true, false, cond, not, leb, List, [], ◌∷◌, ◌++◌, length, filter, refl, ap, le_refl, arith}
-use Rattle.std.specs.List.{AllByRecursion as All}
+use Rattle.std.proofs.Common.{◌≡◌, suc, ◌≤◌, Bool, true, false, cond, not, leb, List, [], ◌∷◌, ◌++◌, length, filter, refl, ap, le_refl, arith}
+use Rattle.std.specs.List.{AllByRecursion}
 use Rattle.std.proofs.ByRecursion.{All-push, all_kept_by, kept_by_passes}
 use Rattle.std.proofs.lemmas.Bool.{cond_both, not-true, leb-false}
 use Rattle.plan.specs.Placements.{Premises}
@@ -11,14 +11,14 @@ use Rattle.calls.specs.Keeping.{not_above, keep}
 use Rattle.laws.specs.Inside.{Apart, KeepsApart}
 
 -- What holds of the new conflict and of each kept one holds of each kept one afterwards.
-pub keep_all : (P : Premises → Type 0) (r : Premises) (ks : List Premises) → P r → All P ks → All P (keep r ks)
+pub keep_all : (P : Premises → Type 0) (r : Premises) (ks : List Premises) → P r → AllByRecursion P ks → AllByRecursion P (keep r ks)
 unfolding keep
 keep_all P r ks p h =
     let rest = not_above r ks in
-    let h' : All P rest = all_kept_by (λ k. not (within r k)) P ks h in
-    cond_both (any (λ k. within k r) ks) ks (cond (leb 64 (length rest)) rest (rest ++ (r ∷ []))) (All P)
+    let h' : AllByRecursion P rest = all_kept_by (λ k. not (within r k)) P ks h in
+    cond_both (any (λ k. within k r) ks) ks (cond (leb 64 (length rest)) rest (rest ++ (r ∷ []))) (AllByRecursion P)
     (λ e. h)
-    (λ e. cond_both (leb 64 (length rest)) rest (rest ++ (r ∷ [])) (All P) (λ f. h') (λ f. All-push P rest r h' p))
+    (λ e. cond_both (leb 64 (length rest)) rest (rest ++ (r ∷ [])) (AllByRecursion P) (λ f. h') (λ f. All-push P rest r h' p))
 
 -- One kept set and another lie apart.
 abbrev Parted : Premises → Premises → Type 0
@@ -31,7 +31,7 @@ kept_apart p (k ∷ ks) h =
     (λ e. (all_kept_by p (Parted k) ks h.0, kept_apart p ks h.1))
     (λ e. kept_apart p ks h.1)
 
-push_apart : (ks : List Premises) (r : Premises) → Apart ks → All (λ k. Parted k r) ks → Apart (ks ++ (r ∷ []))
+push_apart : (ks : List Premises) (r : Premises) → Apart ks → AllByRecursion (λ k. Parted k r) ks → Apart (ks ++ (r ∷ []))
 push_apart [] r h a = (tt, tt)
 push_apart (k ∷ ks) r h a = (All-push (Parted k) ks r h.0 a.0, push_apart ks r h.1 a.1)
 

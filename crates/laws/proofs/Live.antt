@@ -1,5 +1,5 @@
 -- What holds of a cleared board, and that each step keeps it.
-use Rattle.std.proofs.Common.{◌≡◌, ℕ, ◌<◌, ◌≤◌, true, ltb, length, ℤ, ◌≤ℤ◌, Some, None, Option, sym, refl, subst}
+use Rattle.std.proofs.Common.{◌≡◌, ℕ, ◌<◌, true, ltb, length, ℤ, ◌≤ℤ◌, Some, None, Option, sym, refl, subst}
 use Rattle.std.specs.List.{slice_get}
 use Rattle.std.proofs.lemmas.Bool.{cond_both, ltb-true}
 use Rattle.statements.proofs.Tests.{test_clash}

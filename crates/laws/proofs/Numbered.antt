@@ -1,6 +1,6 @@
 -- Elements of lists by their numbers, sets of numbers, and the constraints of a planned network.
-use Rattle.std.proofs.Common.{◌≡◌, ℕ, zero, suc, ◌<◌, ◌≤◌, Bool, true, false, cond, not, ◌&&◌, ◌||◌, ltb, ◌⊎◌, List, [], ◌∷◌, length, Some, None, Option, sym, refl, ap, subst, ⊎_elim, le_refl, arith}
-use Rattle.std.specs.List.{slice_get, AllByRecursion as All}
+use Rattle.std.proofs.Common.{◌≡◌, ℕ, zero, suc, ◌<◌, ◌≤◌, Bool, true, false, cond, not, ◌&&◌, ◌||◌, ltb, List, [], ◌∷◌, length, Some, None, Option, sym, refl, ap, subst, ⊎_elim, le_refl, arith}
+use Rattle.std.specs.List.{slice_get, AllByRecursion}
 use Rattle.std.proofs.lemmas.Bool.{ltb-true, eqb-true, or_cases, or_parts, or_left, or_right, cases_eq, cases_lt, and_parts, not-true}
 use Rattle.statements.proofs.Tests.{test_clash, test_cases, and_made}
 use Rattle.sets.specs.Members.{Members, inside, count}
@@ -17,12 +17,12 @@ use Rattle.calls.specs.Boards.{any_below}
 pub none_some : {A : Type 0} {X : Type 0} (a : A) → None ≡ Some a → X
 none_some {A} a e = absurd (subst (λ (o : Option A). elim o as (λ z. Type 0) [ None ↦ Unit {0} | Some b ↦ ⊥ ]) e tt)
 
-pub all_nth : {A : Type 0} (P : A → Type 0) (xs : List A) (i : ℕ) (x : A) → All P xs → slice_get xs i ≡ Some x → P x
+pub all_nth : {A : Type 0} (P : A → Type 0) (xs : List A) (i : ℕ) (x : A) → AllByRecursion P xs → slice_get xs i ≡ Some x → P x
 all_nth P [] i x h e = none_some x e
 all_nth P (y ∷ ys) zero x h e = subst P (cc) h.0
 all_nth P (y ∷ ys) (suc i) x h e = all_nth P ys i x h.1 e
 
-pub all_from_nth : {A : Type 0} (P : A → Type 0) (xs : List A) → ((i : ℕ) (x : A) → slice_get xs i ≡ Some x → P x) → All P xs
+pub all_from_nth : {A : Type 0} (P : A → Type 0) (xs : List A) → ((i : ℕ) (x : A) → slice_get xs i ≡ Some x → P x) → AllByRecursion P xs
 all_from_nth P [] h = tt
 all_from_nth P (x ∷ xs) h = (h 0 x refl, all_from_nth P xs (λ i y e. h (suc i) y e))
 
@@ -71,7 +71,7 @@ any_below_yes (suc n) s e =
 
 -- ---- constraints in force
 
-below_all : (n : ℕ) (xs : List ℕ) → all_below n xs ≡ true → All (λ x. x < n) xs
+below_all : (n : ℕ) (xs : List ℕ) → all_below n xs ≡ true → AllByRecursion (λ x. x < n) xs
 below_all n [] e = tt
 below_all n (x ∷ xs) e = let h = and_parts (ltb x n) (all_below n xs) e in (ltb-true x n h.0, below_all n xs h.1)
 
@@ -86,7 +86,7 @@ known_at n k (d ∷ ds) (suc i) c e h = known_at n k ds i c (and_parts (known n 
 
 module _ (N : Net) (ok : Planned N) where
   -- A constraint names only cells of the network.
-  pub named_below : (j : ℕ) (k : Constraint) → slice_get N.constraints j ≡ Some k → All (λ x. x < N.cells) (named k.form)
+  pub named_below : (j : ℕ) (k : Constraint) → slice_get N.constraints j ≡ Some k → AllByRecursion (λ x. x < N.cells) (named k.form)
   named_below j k e =
       below_all N.cells (named k.form)
       (and_parts (all_below N.cells (named k.form)) (owner_known N.premises k.owner && ranged k.form) (known_at N.cells N.premises N.constraints j k ok.known e)).0

@@ -1,6 +1,6 @@
 -- A move and a seek: what holds after them, and what they answer.
 use Rattle.std.proofs.Common.{ℕ, ◌<◌, List}
-use Rattle.std.specs.List.{slice_get, AllByRecursion as All}
+use Rattle.std.specs.List.{slice_get, AllByRecursion}
 use Rattle.std.proofs.ByRecursion.{All-weaker}
 use Rattle.facts.specs.Model.{Model}
 use Rattle.facts.specs.Laws.{Laws, Exact}
@@ -46,7 +46,7 @@ module _ {F : Type 0} (m : Model F) (l : Laws m) (N : Net) (ok : Planned N) (for
   RightVerdict q settled = Met q
   RightVerdict q cramped = Unit {0}
 
-  step-told : (j : ℕ) (b : Board F) → (ws : List Word) → All (IsTold m N b.table) ws → All (IsTold m N (after_step m N force j b).table) ws
+  step-told : (j : ℕ) (b : Board F) → (ws : List Word) → AllByRecursion (IsTold m N b.table) ws → AllByRecursion (IsTold m N (after_step m N force j b).table) ws
   unfolding after_step
   step-told j b ws h =
       let T' = after_taken m N force (slice_get N.constraints j) b.table in

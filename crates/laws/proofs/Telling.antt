@@ -1,6 +1,6 @@
 -- Telling what the entries of a trail say.
 use Rattle.std.proofs.Common.{◌≡◌, ℕ, suc, ◌<◌, ◌≤◌, true, eqb, List, [], ◌∷◌, Some, sym, refl, ◌∙◌, subst, arith}
-use Rattle.std.specs.List.{AllByRecursion as All}
+use Rattle.std.specs.List.{AllByRecursion}
 use Rattle.std.proofs.ByRecursion.{All-push}
 use Rattle.std.proofs.lemmas.Bool.{cond_both, cond-true, eqb-true, eq-eqb, lt-ltb}
 use Rattle.statements.specs.Numbers.{top, bottom}
@@ -49,12 +49,12 @@ module _ {F : Type 0} (m : Model F) (l : Laws m) (N : Net) where
   is_told_below T T' b w h = tells_trans m l (T' w.cell).fact (T w.cell).fact (m.stated w.says) (b w.cell) h
 
   -- Where no cell is in conflict afterwards, all was told.
-  pub after_words-told : (ws : List Word) (T : Table F) → All (λ w. w.cell < N.cells) ws → Clean m N (after_words m ws T) → All (IsTold m N (after_words m ws T)) ws
+  pub after_words-told : (ws : List Word) (T : Table F) → AllByRecursion (λ w. w.cell < N.cells) ws → Clean m N (after_words m ws T) → AllByRecursion (IsTold m N (after_words m ws T)) ws
   unfolding after_words
   after_words-told [] T lt clean = tt
   after_words-told (w ∷ ws) T lt clean =
       let T' = after_word m w T in
-      cond_both (none m (T' w.cell).fact) T' (after_words m ws T') (λ z. Clean m N z → All (IsTold m N z) (w ∷ ws))
+      cond_both (none m (T' w.cell).fact) T' (after_words m ws T') (λ z. Clean m N z → AllByRecursion (IsTold m N z) (w ∷ ws))
       (λ e c. test_clash e (c w.cell lt.0))
       (λ e c. (is_told_below T' (after_words m ws T') (after_words_below ws T') w (after_word-told w T), after_words-told ws T' lt.1 c))
       clean
@@ -91,7 +91,7 @@ module _ {F : Type 0} (m : Model F) (l : Laws m) (N : Net) where
           allows = λ v P met. between-allows m l n top (v c) (placed v P c) (sure.holds v P (meets_shorter N v es t r s' (at_hand_opened force es r sure.scope) met)) (placed v P c).1;
         }
 
-    pub words-true : (t es : Trail) → Sub es t → TrueTrail N Sort force es → All (TrueWord t) (words es)
+    pub words-true : (t es : Trail) → Sub es t → TrueTrail N Sort force es → AllByRecursion (TrueWord t) (words es)
     unfolding words
     words-true t [] s h = tt
     words-true t (e ∷ es) s h = All-push (TrueWord t) (words es) (word_of (guesses es) e) (words-true t es (sub_tail e es t s) h.1) (word_of-true t e es s h.0)
@@ -115,7 +115,7 @@ module _ {F : Type 0} (m : Model F) (l : Laws m) (N : Net) where
           (λ held. true-word.allows v P (meets-among N v t r w.reasons held met)),
     )
 
-    pub after_words_good : (t : Trail) (ws : List Word) (T : Table F) → All (TrueWord t) ws → Good t T → Good t (after_words m ws T)
+    pub after_words_good : (t : Trail) (ws : List Word) (T : Table F) → AllByRecursion (TrueWord t) ws → Good t T → Good t (after_words m ws T)
     unfolding after_words
     after_words_good t [] T h ok = ok
     after_words_good t (w ∷ ws) T h ok =

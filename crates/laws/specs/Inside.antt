@@ -1,6 +1,6 @@
 -- What always holds inside a network: of its kept conflicts, and of the trail of its search.
 use Rattle.std.specs.Prelude.{◌≡◌, ◌≤◌, false, List, [], ◌∷◌, length, Some}
-use Rattle.std.specs.List.{AllByRecursion as All}
+use Rattle.std.specs.List.{AllByRecursion}
 use Rattle.facts.specs.Model.{Model, Tells}
 use Rattle.plan.specs.Placements.{Premises}
 use Rattle.telling.specs.Tables.{Table}
@@ -14,7 +14,7 @@ use Rattle.calls.specs.Histories.{Event, History}
 -- No set of the list lies within another of it.
 abbrev pub Apart : List Premises → Type 0
 Apart [] = Unit {0}
-Apart (k ∷ ks) = All (λ j. (within k j ≡ false) × (within j k ≡ false)) ks × Apart ks
+Apart (k ∷ ks) = AllByRecursion (λ j. (within k j ≡ false) × (within j k ≡ false)) ks × Apart ks
 
 -- The keeping rule keeps conflicts apart, and at most 64 of them.
 pub record KeepsApart : Type 0 where
@@ -30,7 +30,7 @@ module _ {F : Type 0} (m : Model F) (N : Net) where
   pub record TrailRight (T : Table F) (t : Trail) : Type 0 where
     pub few_guesses : guesses t ≤ 32
     pub few_entries : length t ≤ 512
-    pub all_told : Clean m N T → All (IsTold T) (words t)
+    pub all_told : Clean m N T → AllByRecursion (IsTold T) (words t)
 
 -- After every history: the kept conflicts are apart and at most 64, and the trail of an open search is right.
 pub record InsideRight {F : Type 0} (m : Model F) (N : Net) (s : State F) : Type 0 where

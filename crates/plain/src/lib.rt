@@ -1,4 +1,6 @@
 // Plans and faults as other programs read them, byte for byte.
+#![tactic(auto)]
+
 ghost use Rattle.std.specs.Prelude.{◌≡◌, Some};
 ghost use Rattle.plan.specs.Items.{planned};
 ghost use Rattle.plain.specs.Lines.{owner_word, statement_words, form_words, constraint_line, layer_word, fault_line, counts_line};

@@ -1,4 +1,6 @@
 // A plan: cells, premises and constraints, with the places of their names, within their limits.
+#![tactic(auto)]
+
 pub mod constraint;
 pub mod draft;
 pub mod names;

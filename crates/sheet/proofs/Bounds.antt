@@ -12,7 +12,6 @@ use Rattle.plan.specs.Names.{Texts}
 use Rattle.meaning.specs.Making.{adds, makes}
 use Rattle.meaning.specs.Checks.{first, expr_fault}
 use Rattle.sheet.specs.declared.reading.Stop.{Stop}
-use Rattle.sheet.specs.declared.reading.Stop.TheVariants as stop
 use Rattle.sheet.specs.Growing.{grows}
 use Rattle.sheet.specs.Progress.{Progress, Pushed}
 use Rattle.sheet.specs.Reads.{limit, from, Ends, marks, begins, Halts, needing, ReadsExpr}

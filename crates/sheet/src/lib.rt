@@ -1,4 +1,6 @@
 // Two sheets, read into a plan or to the first fault.
+#![tactic(auto)]
+
 mod expression;
 mod forms;
 mod heads;

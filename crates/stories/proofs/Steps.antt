@@ -2,7 +2,7 @@
 use Rattle.std.proofs.Common.{◌≡◌, ℕ, zero, suc, Bool, true, false, cond, not, ◌&&◌, ◌||◌, eqb, List, [], ◌∷◌, ℤ, pos, ◌+ℤ◌, Some, Option, sym, refl, ap, ◌∙◌, subst, ap₂, arith}
 use mathlib.Core.Path.{fun_ext}
 use lib.Signed.{lt_z}
-use Rattle.std.specs.List.{slice_get, AllByRecursion as All}
+use Rattle.std.specs.List.{slice_get, AllByRecursion}
 use Rattle.std.proofs.lemmas.Bool.{cond_both, cond-true, cond-false, or_from, and_right}
 use Rattle.statements.specs.Numbers.{top}
 use Rattle.statements.specs.declared.statement.Statement.TheVariants.{Between}
@@ -170,7 +170,7 @@ module _ {F : Type 0} (m : Model F) (l : Laws m) where
     apart_unstuck : (none m (T 0).fact || (none m (T 0).fact || false)) ≡ false
     apart_unstuck = let h = subst (λ (z : Cell F). none m z.fact ≡ false) (sym at) live in or_from (none m (T 0).fact) (none m (T 0).fact || false) h (not_stuck T h)
 
-    unmade : (ps : Premises) (ts : List Tell) → All (λ t. is_made m (facts T) t ≡ false) ts → after_tells m ps ts T ≡ T
+    unmade : (ps : Premises) (ts : List Tell) → AllByRecursion (λ t. is_made m (facts T) t ≡ false) ts → after_tells m ps ts T ≡ T
     unfolding after_tells after_tell
     unmade ps [] h = refl
     unmade ps (t ∷ ts) h =

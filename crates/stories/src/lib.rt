@@ -1,4 +1,6 @@
 // Two histories that happen: the promises are not empty words.
+#![tactic(auto)]
+
 ghost use Rattle.kinds.specs.Full.{full_model};
 ghost use Rattle.stories.specs.Stories.{Finding, Failing};
 

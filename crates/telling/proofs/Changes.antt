@@ -1,7 +1,7 @@
 -- Which cells a firing changes.
-use Rattle.std.proofs.Common.{◌≡◌, ℕ, Bool, true, false, cond, not, ◌||◌, eqb, ◌⊎◌, List, [], ◌∷◌, ◌++◌, sym, refl, ap, ◌∙◌, subst, ap₂, ⊎_elim}
+use Rattle.std.proofs.Common.{◌≡◌, ℕ, Bool, true, false, cond, not, ◌||◌, eqb, List, [], ◌∷◌, ◌++◌, sym, refl, ap, ◌∙◌, subst, ap₂, ⊎_elim}
 use mathlib.Core.Path.{fun_ext}
-use Rattle.std.specs.List.{AllByRecursion as All}
+use Rattle.std.specs.List.{AllByRecursion}
 use Rattle.std.proofs.lemmas.Bool.{cond_both, cond-false, cases_eq, eq-eqb, ne_eqb, or_left}
 use Rattle.statements.proofs.Tests.{test_clash, test_cases, test_no}
 use Rattle.facts.specs.Model.{Model, Tells}
@@ -160,7 +160,7 @@ module _ {F : Type 0} (m : Model F) (l : Laws m) where
   only_one : (ns : List ℕ) (x : ℕ) (T T' : Table F) → among x ns ≡ true → Elsewhere x T T' → Only ns T T'
   only_one ns x T T' h other y off = other y (λ e. test_clash (subst (λ z. among z ns ≡ true) e h) off)
 
-  only-tells : (ns : List ℕ) (ps : Premises) (ts : List Tell) (T : Table F) → All (λ t. among t.target ns ≡ true) ts → Only ns T (after_tells m ps ts T)
+  only-tells : (ns : List ℕ) (ps : Premises) (ts : List Tell) (T : Table F) → AllByRecursion (λ t. among t.target ns ≡ true) ts → Only ns T (after_tells m ps ts T)
   unfolding after_tells
   only-tells ns ps [] T h = λ x off. refl
   only-tells ns ps (t ∷ ts) T h =
@@ -170,7 +170,7 @@ module _ {F : Type 0} (m : Model F) (l : Laws m) where
       (λ e. p)
       (λ e x off. only-tells ns ps ts T' h.1 x off ∙ p x off)
 
-  only_deads : (ns : List ℕ) (ps : Premises) (ms xs : List ℕ) (T : Table F) → All (λ x. among x ns ≡ true) xs → Only ns T (after_deads m ps ms xs T)
+  only_deads : (ns : List ℕ) (ps : Premises) (ms xs : List ℕ) (T : Table F) → AllByRecursion (λ x. among x ns ≡ true) xs → Only ns T (after_deads m ps ms xs T)
   unfolding after_deads
   only_deads ns ps ms [] T h x off = refl
   only_deads ns ps ms (y ∷ ys) T h x off =

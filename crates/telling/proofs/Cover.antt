@@ -1,6 +1,6 @@
 -- What firing keeps, whatever the cells are measured against.
 use Rattle.std.proofs.Common.{◌≡◌, ℕ, true, cond, List, [], ◌∷◌, sym, subst}
-use Rattle.std.specs.List.{AllByRecursion as All}
+use Rattle.std.specs.List.{AllByRecursion}
 use Rattle.std.proofs.lemmas.Bool.{cond_both, or_left, or_right}
 use Rattle.facts.specs.Model.{Model}
 use Rattle.facts.specs.Laws.{Laws}
@@ -38,16 +38,16 @@ module _ {F : Type 0} (m : Model F) (l : Laws m) (W : Cover m) where
 
   -- A tell that reads covered facts says what is covered.
   abbrev pub FairTell : Tell → Type 0
-  FairTell t = (φ : ℕ → F) → All (λ x. W.Covers x (φ x)) (reads t) → is_made m φ t ≡ true → W.Covers t.target (said_fact m φ t)
+  FairTell t = (φ : ℕ → F) → AllByRecursion (λ x. W.Covers x (φ x)) (reads t) → is_made m φ t ≡ true → W.Covers t.target (said_fact m φ t)
 
   -- Among covered facts with a conflict, cell y is covered even as dead.
   abbrev pub FairDead : List ℕ → ℕ → Type 0
-  FairDead ns y = (φ : ℕ → F) → All (λ x. W.Covers x (φ x)) ns → any_in_conflict m φ ns ≡ true → W.Covers y (dead m)
+  FairDead ns y = (φ : ℕ → F) → AllByRecursion (λ x. W.Covers x (φ x)) ns → any_in_conflict m φ ns ≡ true → W.Covers y (dead m)
 
   -- Firing the constraint is fair, if its premises count.
   pub record Fair (k : Constraint) : Type 0 where
-    pub fair_tells : Among (premises_only (owned_by k.owner)) W.r → All FairTell (tells k.form)
-    pub fair_deads : Among (premises_only (owned_by k.owner)) W.r → All (FairDead (named k.form)) (named k.form)
+    pub fair_tells : Among (premises_only (owned_by k.owner)) W.r → AllByRecursion FairTell (tells k.form)
+    pub fair_deads : Among (premises_only (owned_by k.owner)) W.r → AllByRecursion (FairDead (named k.form)) (named k.form)
 
   among_left : (r s : Reasons) → Among (together r s) W.r → Among r W.r
   among_left r s h t e = h t (or_left (r t) (s t) e)
@@ -68,7 +68,7 @@ module _ {F : Type 0} (m : Model F) (l : Laws m) (W : Cover m) where
       (λ e' held. W.covers_told x c.fact g (ok (among_left c.reasons s held)) (new (among_right c.reasons s held))))
 
   -- Cells whose reasons count together are covered each.
-  pub reasons_of-sound : (T : Table F) → Sound T → (xs : List ℕ) → Among (reasons_of T xs) W.r → All (λ x. W.Covers x (T x).fact) xs
+  pub reasons_of-sound : (T : Table F) → Sound T → (xs : List ℕ) → Among (reasons_of T xs) W.r → AllByRecursion (λ x. W.Covers x (T x).fact) xs
   reasons_of-sound T ok [] h = tt
   reasons_of-sound T ok (x ∷ xs) h =
       (ok x (among_left (T x).reasons (reasons_of T xs) h), reasons_of-sound T ok xs (among_right (T x).reasons (reasons_of T xs) h))
@@ -90,7 +90,7 @@ module _ {F : Type 0} (m : Model F) (l : Laws m) (W : Cover m) where
       (reasons_of-sound T ok (reads t) (among_right (premises_only ps) (reasons_of T (reads t)) held)) e))
       (λ e. ok)
 
-  pub after_tells-sound : (ps : Premises) (ts : List Tell) (T : Table F) → (Among (premises_only ps) W.r → All FairTell ts) → Sound T → Sound (after_tells m ps ts T)
+  pub after_tells-sound : (ps : Premises) (ts : List Tell) (T : Table F) → (Among (premises_only ps) W.r → AllByRecursion FairTell ts) → Sound T → Sound (after_tells m ps ts T)
   unfolding after_tells
   after_tells-sound ps [] T fair ok = ok
   after_tells-sound ps (t ∷ ts) T fair ok =
@@ -107,7 +107,7 @@ module _ {F : Type 0} (m : Model F) (l : Laws m) (W : Cover m) where
       after_told-sound x (dead m) (together (premises_only ps) (reasons_of T ns)) T ok
       (λ held. fair (among_left (premises_only ps) (reasons_of T ns) held) (facts T) (reasons_of-sound T ok ns (among_right (premises_only ps) (reasons_of T ns) held)) e)
 
-  pub after_deads-sound : (ps : Premises) (ns xs : List ℕ) (T : Table F) → (Among (premises_only ps) W.r → All (FairDead ns) xs) → any_in_conflict m (facts T) ns ≡ true → Sound T → Sound (after_deads m ps ns xs T)
+  pub after_deads-sound : (ps : Premises) (ns xs : List ℕ) (T : Table F) → (Among (premises_only ps) W.r → AllByRecursion (FairDead ns) xs) → any_in_conflict m (facts T) ns ≡ true → Sound T → Sound (after_deads m ps ns xs T)
   unfolding after_deads
   after_deads-sound ps ns [] T fair e ok = ok
   after_deads-sound ps ns (x ∷ xs) T fair e ok =

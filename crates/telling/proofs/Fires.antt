@@ -1,7 +1,7 @@
 -- Firing and facts: facts only narrow, and nothing changes exactly where no tell has anything new to say.
 use Rattle.std.proofs.Common.{◌≡◌, ℕ, true, false, ◌⊎◌, List, [], ◌∷◌, sym, refl, ap, ◌∙◌, subst, inl, inr, ⊎_elim}
 use mathlib.Core.Path.{fun_ext}
-use Rattle.std.specs.List.{AllByRecursion as All}
+use Rattle.std.specs.List.{AllByRecursion}
 use Rattle.std.proofs.lemmas.Bool.{cond_both, cond-true, cond-false}
 use Rattle.statements.proofs.Tests.{test_clash, test_cases}
 use Rattle.facts.specs.Model.{Model, Tells}
@@ -23,7 +23,7 @@ use Rattle.telling.proofs.Cases.{upd_cases, upd-here, any_none}
 use Rattle.telling.proofs.Tells.{told-dead, told_cell-fact, told_cell-tells}
 
 -- What holds of each cell that a form names holds of each target of its tells.
-pub tells_targets : (P : ℕ → Type 0) (q : Form) → All P (named q) → All (λ t. P t.target) (tells q)
+pub tells_targets : (P : ℕ → Type 0) (q : Form) → AllByRecursion P (named q) → AllByRecursion (λ t. P t.target) (tells q)
 tells_targets P (State c s) h = (h.0, (h.0, tt))
 tells_targets P (Sum a b c) h = (h.1.1.0, (h.0, (h.1.0, tt)))
 tells_targets P (Gap a d b) h = (h.1.0, (h.0, tt))
@@ -37,8 +37,8 @@ module _ {F : Type 0} (m : Model F) where
   -- The form has nothing new to say of these facts.
   abbrev pub Calm : (ℕ → F) → Form → Type 0
   Calm φ q =
-      ((any_in_conflict m φ (named q) ≡ true) × All (λ x. φ x ≡ dead m) (named q))
-      ⊎ ((any_in_conflict m φ (named q) ≡ false) × All (CalmTell φ) (tells q))
+      ((any_in_conflict m φ (named q) ≡ true) × AllByRecursion (λ x. φ x ≡ dead m) (named q))
+      ⊎ ((any_in_conflict m φ (named q) ≡ false) × AllByRecursion (CalmTell φ) (tells q))
 
   -- Each fact of φ tells at least that of ψ.
   abbrev pub Below : (φ ψ : ℕ → F) → Type 0
@@ -112,14 +112,14 @@ module _ {F : Type 0} (m : Model F) (l : Laws m) where
       (λ e. below_trans (facts (after_tells m ps ts T')) (facts T') (facts T) (after_tells_below ps ts T') (after_tell_below ps t T))
 
   -- Tells that changed nothing had nothing new to say.
-  pub after_tells-still : (ps : Premises) (ts : List Tell) (T : Table F) → All (λ t. none m (T t.target).fact ≡ false) ts → facts (after_tells m ps ts T) ≡ facts T → All (CalmTell m (facts T)) ts
+  pub after_tells-still : (ps : Premises) (ts : List Tell) (T : Table F) → AllByRecursion (λ t. none m (T t.target).fact ≡ false) ts → facts (after_tells m ps ts T) ≡ facts T → AllByRecursion (CalmTell m (facts T)) ts
   unfolding after_tells
   after_tells-still ps [] T ne e = tt
   after_tells-still ps (t ∷ ts) T ne e =
       let T' = after_tell m ps t T in
       let R = after_tells m ps ts T' in
       let b = none m (T' t.target).fact in
-      let G : Type 0 = All (CalmTell m (facts T)) (t ∷ ts) in
+      let G : Type 0 = AllByRecursion (CalmTell m (facts T)) (t ∷ ts) in
       test_cases {P = G} b
       (λ h.
       let same : facts T' ≡ facts T = ap facts (sym (cond-true b T' R h)) ∙ e in
@@ -130,13 +130,13 @@ module _ {F : Type 0} (m : Model F) (l : Laws m) where
       below_antisym (facts T') (facts T) (after_tell_below ps t T)
       (λ x. subst (λ (φ : ℕ → F). Tells m (φ x) (T' x).fact) fin (after_tells_below ps ts T' x)) in (
         λ op. sym (after_tell-fact ps t T op) ∙ ap (λ (φ : ℕ → F). φ t.target) same,
-        subst (λ φ. All (CalmTell m φ) ts) same
+        subst (λ φ. AllByRecursion (CalmTell m φ) ts) same
             (after_tells-still ps ts T'
-            (subst (λ (φ : ℕ → F). All (λ u. none m (φ u.target) ≡ false) ts) (sym same) ne.1)
+            (subst (λ (φ : ℕ → F). AllByRecursion (λ u. none m (φ u.target) ≡ false) ts) (sym same) ne.1)
             (fin ∙ sym same)),
       ))
 
-  pub after_tells_calm : (ps : Premises) (ts : List Tell) (T : Table F) → All (CalmTell m (facts T)) ts → facts (after_tells m ps ts T) ≡ facts T
+  pub after_tells_calm : (ps : Premises) (ts : List Tell) (T : Table F) → AllByRecursion (CalmTell m (facts T)) ts → facts (after_tells m ps ts T) ≡ facts T
   unfolding after_tells
   after_tells_calm ps [] T h = refl
   after_tells_calm ps (t ∷ ts) T h =
@@ -145,7 +145,7 @@ module _ {F : Type 0} (m : Model F) (l : Laws m) where
       cond_both (none m (T' t.target).fact) T' (after_tells m ps ts T')
       (λ z. facts z ≡ facts T)
       (λ e. same)
-      (λ e. after_tells_calm ps ts T' (subst (λ φ. All (CalmTell m φ) ts) (sym same) h.1) ∙ same)
+      (λ e. after_tells_calm ps ts T' (subst (λ φ. AllByRecursion (CalmTell m φ) ts) (sym same) h.1) ∙ same)
 
   -- ---- cells told that no number is allowed
 
@@ -168,7 +168,7 @@ module _ {F : Type 0} (m : Model F) (l : Laws m) where
       let T' = after_dead m ps ns x T in
       below_trans (facts (after_deads m ps ns xs T')) (facts T') (facts T) (after_deads_below ps ns xs T') (after_dead_below ps ns x T)
 
-  pub after_deads-still : (ps : Premises) (ns xs : List ℕ) (T : Table F) → facts (after_deads m ps ns xs T) ≡ facts T → All (λ x. (T x).fact ≡ dead m) xs
+  pub after_deads-still : (ps : Premises) (ns xs : List ℕ) (T : Table F) → facts (after_deads m ps ns xs T) ≡ facts T → AllByRecursion (λ x. (T x).fact ≡ dead m) xs
   unfolding after_deads
   after_deads-still ps ns [] T e = tt
   after_deads-still ps ns (x ∷ xs) T e =
@@ -176,15 +176,15 @@ module _ {F : Type 0} (m : Model F) (l : Laws m) where
       let was : (T x).fact ≡ dead m =
       tells-dead m l (T x).fact (subst (λ (φ : ℕ → F). Tells m (φ x) (dead m)) e (subst (λ z. Tells m (after_deads m ps ns xs T' x).fact z) (after_dead-fact ps ns x T) (after_deads_below ps ns xs T' x))) in
       let same : facts T' ≡ facts T = after_dead_calm ps ns x T was in
-      (was, subst (λ (φ : ℕ → F). All (λ y. φ y ≡ dead m) xs) same (after_deads-still ps ns xs T' (e ∙ sym same)))
+      (was, subst (λ (φ : ℕ → F). AllByRecursion (λ y. φ y ≡ dead m) xs) same (after_deads-still ps ns xs T' (e ∙ sym same)))
 
-  pub after_deads_calm : (ps : Premises) (ns xs : List ℕ) (T : Table F) → All (λ x. (T x).fact ≡ dead m) xs → facts (after_deads m ps ns xs T) ≡ facts T
+  pub after_deads_calm : (ps : Premises) (ns xs : List ℕ) (T : Table F) → AllByRecursion (λ x. (T x).fact ≡ dead m) xs → facts (after_deads m ps ns xs T) ≡ facts T
   unfolding after_deads
   after_deads_calm ps ns [] T h = refl
   after_deads_calm ps ns (x ∷ xs) T h =
       let T' = after_dead m ps ns x T in
       let same : facts T' ≡ facts T = after_dead_calm ps ns x T h.0 in
-      after_deads_calm ps ns xs T' (subst (λ (φ : ℕ → F). All (λ y. φ y ≡ dead m) xs) (sym same) h.1) ∙ same
+      after_deads_calm ps ns xs T' (subst (λ (φ : ℕ → F). AllByRecursion (λ y. φ y ≡ dead m) xs) (sym same) h.1) ∙ same
 
   -- ---- firing
 

@@ -1,7 +1,7 @@
 -- A placement covers what allows its numbers.
 use Rattle.std.proofs.Common.{◌≡◌, ℕ, true, false, List, ℤ, pos, ◌+ℤ◌, ◌-ℤ◌, ◌≤ℤ◌, ◌<ℤ◌, refl, ◌∙◌, arith}
 use lib.Signed.{lt_z}
-use Rattle.std.specs.List.{AllByRecursion as All}
+use Rattle.std.specs.List.{AllByRecursion}
 use Rattle.std.proofs.ByRecursion.{All-weaker}
 use Rattle.std.proofs.lemmas.Int.{ints, clamps}
 use Rattle.statements.specs.Between.{between}
@@ -50,10 +50,10 @@ less_of a b e = record { lt = test_t (lt_z a b) e }
 module _ (v : Placement) (P : Placed v) where
   -- What the tell says, wherever the cells that it reads lie around the placement, allows its target's number.
   abbrev Right : Tell → Type 0
-  Right t = (lo hi : ℕ → ℤ) → All (Around v lo hi) (reads t) → holds lo hi t.condition ≡ true → allowed (said lo hi t.saying) (v t.target) ≡ true
+  Right t = (lo hi : ℕ → ℤ) → AllByRecursion (Around v lo hi) (reads t) → holds lo hi t.condition ≡ true → allowed (said lo hi t.saying) (v t.target) ≡ true
 
   -- The tells of a form that the placement satisfies are right.
-  satisfied_right : (q : Form) → Satisfies v q → All Right (tells q)
+  satisfied_right : (q : Form) → Satisfies v q → AllByRecursion Right (tells q)
   satisfied_right (State c s) h = (
     λ lo hi r o. h,
     (λ lo hi r o. between_made (up s (lo c)) (down s (hi c)) (v c) (P c) (up_least s (lo c) (v c) r.0.0 h) (down_greatest s (hi c) (v c) r.0.1 h), tt),
@@ -92,11 +92,11 @@ module _ (v : Placement) (P : Placed v) where
       covers_tidy = λ x g p. tidy_allows m l g (v x) ∙ p;
     }
 
-    around : (φ : ℕ → F) (xs : List ℕ) → All (λ x. m.allows (φ x) (v x) ≡ true) xs → All (Around v (lows m φ) (highs m φ)) xs
+    around : (φ : ℕ → F) (xs : List ℕ) → AllByRecursion (λ x. m.allows (φ x) (v x) ≡ true) xs → AllByRecursion (Around v (lows m φ) (highs m φ)) xs
     around φ xs h =
         All-weaker (λ x. m.allows (φ x) (v x) ≡ true) (Around v (lows m φ) (highs m φ)) (λ x p. (low_le m l (φ x) (v x) p, high_ge m l (φ x) (v x) p)) xs h
 
-    no_conflict : (φ : ℕ → F) (xs : List ℕ) → All (λ x. m.allows (φ x) (v x) ≡ true) xs → All (λ x. none m (φ x) ≡ false) xs
+    no_conflict : (φ : ℕ → F) (xs : List ℕ) → AllByRecursion (λ x. m.allows (φ x) (v x) ≡ true) xs → AllByRecursion (λ x. none m (φ x) ≡ false) xs
     no_conflict φ xs h = All-weaker (λ x. m.allows (φ x) (v x) ≡ true) (λ x. none m (φ x) ≡ false) (λ x p. none_no m l (φ x) (v x) p) xs h
 
     -- A constraint that the placement satisfies, if its premises count, is fair.

@@ -1,6 +1,6 @@
 -- In an exact kind, what is settled and still is right.
 use Rattle.std.proofs.Common.{◌≡◌, ℕ, true, false, ℤ, pos, ◌+ℤ◌, ◌≤ℤ◌, sym, refl, ◌∙◌, subst, inl, inr, ⊎_elim, arith}
-use Rattle.std.specs.List.{AllByRecursion as All}
+use Rattle.std.specs.List.{AllByRecursion}
 use Rattle.std.proofs.ByRecursion.{All-weaker}
 use Rattle.std.proofs.lemmas.Int.{ints, clamps, by_lt_z}
 use Rattle.statements.specs.Numbers.{top, InU, raised, lowered}
@@ -45,7 +45,7 @@ module _ {F : Type 0} (m : Model F) (l : Laws m) (exact : Exact m) (φ : ℕ →
       let i = inside_of (raised lo) (lowered hi) n (sym (exact lo hi n) ∙ yes) in
       (omega (arith, ints, clamps), omega (arith, ints, clamps))
 
-  calm_satisfied : (q : Form) → All (One m φ) (named q) → All (CalmTell m φ) (tells q) → Satisfies (λ x. low m (φ x)) q
+  calm_satisfied : (q : Form) → AllByRecursion (One m φ) (named q) → AllByRecursion (CalmTell m φ) (tells q) → Satisfies (λ x. low m (φ x)) q
   calm_satisfied (State c s) n h =
       let r = ranged (up s (low m (φ c))) (down s (high m (φ c))) c n.0 (h.1.0 refl) in
       up-allowed s (low m (φ c)) (low_in m l (φ c)) r.0

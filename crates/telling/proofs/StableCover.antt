@@ -1,7 +1,7 @@
 -- A stable table covers what it tells at least as much as.
 use Rattle.std.proofs.Common.{◌≡◌, ℕ, true, List, ℤ, pos, ◌+ℤ◌, ◌-ℤ◌, ◌≤ℤ◌, ◌<ℤ◌, sym, refl, subst, ⊎_elim, arith}
 use lib.Signed.{lt_z, ≤ℤ_refl}
-use Rattle.std.specs.List.{AllByRecursion as All}
+use Rattle.std.specs.List.{AllByRecursion}
 use Rattle.std.proofs.ByRecursion.{All-weaker}
 use Rattle.std.proofs.lemmas.Int.{ints}
 use Rattle.statements.specs.Numbers.{top, bottom}
@@ -25,7 +25,7 @@ use Rattle.forms.specs.declared.tell.Saying.{Saying}
 use Rattle.forms.specs.declared.tell.Saying.TheVariants.{Stated, Cut, Plus, Minus, From, UpTo}
 use Rattle.forms.specs.declared.tell.Tell.{Tell}
 use Rattle.telling.specs.Reasons.{premise, Reasons, Among, every_reason, premises_only}
-use Rattle.telling.specs.Tables.{facts, bare}
+use Rattle.telling.specs.Tables.{bare}
 use Rattle.telling.specs.Telling.{lows, highs, is_made, said_fact}
 use Rattle.telling.specs.Firing.{any_in_conflict, fired}
 use Rattle.telling.specs.Stable as stable
@@ -46,7 +46,7 @@ less_mono : (x y x' y' : ℤ) → x' ≤ℤ x → y ≤ℤ y' → lt_z x y ≡ t
 less_mono x y x' y' p q e = let r : x <ℤ y = record { lt = test_t (lt_z x y) e } in grind (arith, ints)
 
 -- A condition that holds goes on holding.
-pub holds_mono : (lo hi lo' hi' : ℕ → ℤ) (c : Condition) → All (Closer lo hi lo' hi') (condition_reads c) → holds lo hi c ≡ true → holds lo' hi' c ≡ true
+pub holds_mono : (lo hi lo' hi' : ℕ → ℤ) (c : Condition) → AllByRecursion (Closer lo hi lo' hi') (condition_reads c) → holds lo hi c ≡ true → holds lo' hi' c ≡ true
 holds_mono lo hi lo' hi' Always h e = refl
 holds_mono lo hi lo' hi' (Above a d b) h e =
     less_mono (hi b) (lo a +ℤ d) (hi' b) (lo' a +ℤ d) h.1.0.1 (let p : lo a ≤ℤ lo' a = h.0.0 in omega (arith, ints)) e
@@ -60,13 +60,13 @@ unfolding down
 down_mono s n m h = greatest_to_mono (allowed s) (allowed_within s) (bottom -ℤ pos 1) n m (omega (arith, ints)) h
 
 module _ {F : Type 0} (m : Model F) (l : Laws m) where
-  closer : (φ ψ : ℕ → F) (xs : List ℕ) → All (λ x. Tells m (ψ x) (φ x)) xs → All (Closer (lows m φ) (highs m φ) (lows m ψ) (highs m ψ)) xs
+  closer : (φ ψ : ℕ → F) (xs : List ℕ) → AllByRecursion (λ x. Tells m (ψ x) (φ x)) xs → AllByRecursion (Closer (lows m φ) (highs m φ) (lows m ψ) (highs m ψ)) xs
   closer φ ψ xs h =
       All-weaker (λ x. Tells m (ψ x) (φ x)) (Closer (lows m φ) (highs m φ) (lows m ψ) (highs m ψ))
       (λ x p. (low_mono m l (ψ x) (φ x) p, high_mono m l (ψ x) (φ x) p)) xs h
 
   -- Of facts that tell more, more is said.
-  said_mono : (lo hi lo' hi' : ℕ → ℤ) (s : Saying) → All (Closer lo hi lo' hi') (saying_reads s) → Tells m (m.stated (said lo' hi' s)) (m.stated (said lo hi s))
+  said_mono : (lo hi lo' hi' : ℕ → ℤ) (s : Saying) → AllByRecursion (Closer lo hi lo' hi') (saying_reads s) → Tells m (m.stated (said lo' hi' s)) (m.stated (said lo hi s))
   said_mono lo hi lo' hi' (Stated s) h = tells-refl m l (m.stated s)
   said_mono lo hi lo' hi' (Cut x s) h = between_mono m l (up s (lo' x)) (down s (hi' x)) (up s (lo x)) (down s (hi x)) (up_mono s (lo x) (lo' x) h.0.0) (down_mono s (hi' x) (hi x) h.0.1)
   said_mono lo hi lo' hi' (Plus x y) h =
@@ -89,7 +89,7 @@ module _ {F : Type 0} (m : Model F) (l : Laws m) where
       between_mono m l bottom (hi' x -ℤ d) bottom (hi x -ℤ d) (≤ℤ_refl bottom) (omega (arith, ints))
 
   -- A tell that is made of facts is made of facts that tell more.
-  pub is_made_mono : (φ ψ : ℕ → F) (t : Tell) → All (λ x. Tells m (ψ x) (φ x)) (condition_reads t.condition) → is_made m φ t ≡ true → is_made m ψ t ≡ true
+  pub is_made_mono : (φ ψ : ℕ → F) (t : Tell) → AllByRecursion (λ x. Tells m (ψ x) (φ x)) (condition_reads t.condition) → is_made m φ t ≡ true → is_made m ψ t ≡ true
   is_made_mono φ ψ t h e = holds_mono (lows m φ) (highs m φ) (lows m ψ) (highs m ψ) t.condition (closer φ ψ (condition_reads t.condition) h) e
 
   -- ---- the cover
@@ -105,7 +105,7 @@ module _ {F : Type 0} (m : Model F) (l : Laws m) where
       covers_tidy = λ x g p. subst (λ z. Tells m z (tidy m g)) (neat x) (tidy_mono m l (ψ x) g p);
     }
 
-    conflict_mono : (φ : ℕ → F) (xs : List ℕ) → All (λ x. Tells m (ψ x) (φ x)) xs → any_in_conflict m φ xs ≡ true → any_in_conflict m ψ xs ≡ true
+    conflict_mono : (φ : ℕ → F) (xs : List ℕ) → AllByRecursion (λ x. Tells m (ψ x) (φ x)) xs → any_in_conflict m φ xs ≡ true → any_in_conflict m ψ xs ≡ true
     conflict_mono φ xs cov e =
         any_implied (λ x. none m (φ x)) (λ x. none m (ψ x)) xs
         (All-weaker (λ x. Tells m (ψ x) (φ x)) (λ x. none m (φ x) ≡ true → none m (ψ x) ≡ true) (λ x p. none_mono m l (ψ x) (φ x) p) xs cov) e

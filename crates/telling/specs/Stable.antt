@@ -1,6 +1,6 @@
 -- Stable tables, and how a table of facts or a placement lies to a table of cells.
 use Rattle.std.specs.Prelude.{◌≡◌, ℕ, true, false, List}
-use Rattle.std.specs.List.{AllByRecursion as All}
+use Rattle.std.specs.List.{AllByRecursion}
 use Rattle.facts.specs.Model.{Model, Tells}
 use Rattle.facts.specs.Derived.{low, high, none, tidy}
 use Rattle.plan.specs.Placements.{Placement, Premises, InForce}
@@ -21,7 +21,7 @@ module _ {F : Type 0} (m : Model F) where
   -- Each fact is its own tidy, and no constraint in force under the premises s changes a fact by firing.
   pub record Stable (ks : List Constraint) (s : Premises) (φ : ℕ → F) : Type 0 where
     pub tidy : Tidy φ
-    pub still : All (λ k. InForce s k → Still k φ) ks
+    pub still : AllByRecursion (λ k. InForce s k → Still k φ) ks
 
   -- The facts φ tell at least as much as each cell.
   abbrev pub Above : (ℕ → F) → Table F → Type 0

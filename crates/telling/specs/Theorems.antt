@@ -1,6 +1,6 @@
 -- What firing promises, in every lawful kind.
 use Rattle.std.specs.Prelude.{◌≡◌, ℕ, ◌<◌, ◌≤◌, true, false, ◌≢◌, List}
-use Rattle.std.specs.List.{AllByRecursion as All}
+use Rattle.std.specs.List.{AllByRecursion}
 use Rattle.facts.specs.Laws.{Exact}
 use Rattle.facts.specs.Model.{Model}
 use Rattle.facts.specs.Derived.{low}
@@ -18,9 +18,9 @@ use Rattle.telling.specs.Stable.{Still, Stable, Above, AboveBy, Lies, LiesBy, On
 -- Firing tells no more than a stable table does.
 pub record TellsNoMore {F : Type 0} (m : Model F) : Type 0 where
   -- A stable table above the present one is still above it after firing a constraint in force.
-  pub above_stays : (ks : List Constraint) (s : Premises) (φ : ℕ → F) → Stable m ks s φ → (T : Table F) → Above m φ T → All (λ k. InForce s k → Above m φ (fired m k T)) ks
+  pub above_stays : (ks : List Constraint) (s : Premises) (φ : ℕ → F) → Stable m ks s φ → (T : Table F) → Above m φ T → AllByRecursion (λ k. InForce s k → Above m φ (fired m k T)) ks
   -- The same of the cells whose reasons are premises of s, whichever constraint is fired: what rests on other reasons is no matter.
-  pub above_by_reasons : (ks : List Constraint) (s : Premises) (φ : ℕ → F) → Stable m ks s φ → (T : Table F) → AboveBy m (premises_only s) φ T → All (λ k. AboveBy m (premises_only s) φ (fired m k T)) ks
+  pub above_by_reasons : (ks : List Constraint) (s : Premises) (φ : ℕ → F) → Stable m ks s φ → (T : Table F) → AboveBy m (premises_only s) φ T → AllByRecursion (λ k. AboveBy m (premises_only s) φ (fired m k T)) ks
 
 -- Firing loses no placement.
 pub record LosesNone {F : Type 0} (m : Model F) : Type 0 where
@@ -31,7 +31,7 @@ pub record LosesNone {F : Type 0} (m : Model F) : Type 0 where
 
 -- In an exact kind, a constraint that changes nothing where each of its cells has one number is satisfied by those numbers.
 abbrev pub SettlesRight : {F : Type 0} → Model F → Type 0
-SettlesRight {F} m = Exact m → (k : Constraint) (φ : ℕ → F) → All (One m φ) (named k.form) → Still m k φ → Satisfies (λ x. low m (φ x)) k.form
+SettlesRight {F} m = Exact m → (k : Constraint) (φ : ℕ → F) → AllByRecursion (One m φ) (named k.form) → Still m k φ → Satisfies (λ x. low m (φ x)) k.form
 
 -- Each change makes a table smaller.
 pub record Shrinks {F : Type 0} (m : Model F) : Type 0 where

@@ -1,2 +1,4 @@
 // What firing promises in every lawful kind: a function for each theorem.
+#![tactic(auto)]
+
 pub mod promises;

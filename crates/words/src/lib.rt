@@ -1,4 +1,5 @@
 // The words of a line of a sheet, each with its column, or the first fault of its bytes.
+#![tactic(auto)]
 
 ghost use Rattle.std.specs.Prelude.{◌≡◌, ℕ, ◌+◌, ◌<◌, ◌≤◌, true, false, length, take, slice_index};
 ghost use Rattle.std.specs.Str.{bytes_eq};

@@ -1,5 +1,5 @@
 -- What each turn over the digits keeps: the number so far, and what the rest makes of it.
-use Rattle.std.proofs.Common.{◌≡◌, ◌-◌, ◌≤◌, drop}
+use Rattle.std.proofs.Common.{◌≡◌, ◌≤◌, drop}
 use Rattle.words.specs.Words.{decimal_after, decimal}
 use Rattle.words.proofs.number.Given as goal
 

@@ -1,5 +1,5 @@
 use Rattle.std.proofs.Common.{ℕ, ◌<◌, length, sym, ◌∙◌, subst, arith}
-use Rattle.std.specs.List.{AllByRecursion as All}
+use Rattle.std.specs.List.{AllByRecursion}
 use Rattle.plan.specs.Placements.{owned_by}
 use Rattle.forms.specs.Tells.{tells, reads}
 use Rattle.cells.specs.Meaning.{table_of, FitTell}
@@ -19,7 +19,7 @@ make-changed-requires g c =
     let n = length c.args.table.now in
     let k = c.args.k in
     let t = c.in-Some.t in
-    let i = nth_all (λ u. All (λ x. x < n) (reads u) × (u.target < n)) (tells k.form) c.loop-t.i t (tells-inside n k c.requires) c.in-Some.ensures.tell in
+    let i = nth_all (λ u. AllByRecursion (λ x. x < n) (reads u) × (u.target < n)) (tells k.form) c.loop-t.i t (tells-inside n k c.requires) c.in-Some.ensures.tell in
     let fit = tell_fits n k c.requires t i (c.in-Some.ensures.near (known-ranged n k c.requires)) in
     record { owner = known_owner n k c.requires; fit = subst (λ (z : ℕ). FitTell z t) (sym c.loop-t.auto.table) fit }
 
@@ -34,7 +34,7 @@ pub conflict_at-conflict-requires : goal.conflict_at-conflict-requires
 conflict_at-conflict-requires g c =
     let n = length c.args.table.now in
     let k = c.args.k in
-    let i = nth_all (λ u. All (λ x. x < n) (reads u) × (u.target < n)) (tells k.form) c.loop-t.i c.in-Some.t (tells-inside n k c.requires) c.in-Some.ensures.tell in
+    let i = nth_all (λ u. AllByRecursion (λ x. x < n) (reads u) × (u.target < n)) (tells k.form) c.loop-t.i c.in-Some.t (tells-inside n k c.requires) c.in-Some.ensures.tell in
     omega (arith, i.1)
 
 pub returns-then-conflict : goal.returns-then-conflict
