@@ -4,6 +4,8 @@
 // its first line does. In a text `\n`, `\r`, `\t`, `\s` and `\xHH` stand for bytes, `\` and another byte for that one,
 // and `&` joins pieces; `@N TEXT` is N copies of TEXT, in which each `#` is the number of the copy, from 0. A line that
 // begins with `#` is a comment. One plan serves all cases, so that each is read over what the one before it left.
+#![tactic(auto)]
+
 mod make;
 
 use faults::Fault;

@@ -1,4 +1,6 @@
 // Checks two sheets: prints the plan that they are read to, or their fault.
+#![tactic(auto)]
+
 mod args;
 mod expect;
 mod explain;
