@@ -49,9 +49,10 @@ def key(name):
 
 def main():
     for crate in sys.argv[1:]:
-        folder = tempfile.mkdtemp()
-        subprocess.run(["rt", "check", "--generated", folder, "--old-names"], cwd="crates/" + crate, stdout=subprocess.DEVNULL, stderr=subprocess.DEVNULL)
-        table = json.load(open(os.path.join(folder, "names.json")))
+        with tempfile.TemporaryDirectory() as listed:
+            subprocess.run(["rt", "check", "--generated", listed, "--old-names"], cwd="crates/" + crate, stdout=subprocess.DEVNULL, stderr=subprocess.DEVNULL)
+            with open(os.path.join(listed, "names.json"), encoding="utf-8") as names:
+                table = json.load(names)
         head = "Rattle-%s-proofs." % crate
         for module, entry in table.items():
             if not module.startswith(head) or ".Lts" not in module:
