@@ -1,12 +1,14 @@
 -- The least and the greatest number of an Aligned.
-use Rattle.std.proofs.Common.{◌≡◌, ◌^◌, true, false, eqb, ℤ, pos, ◌+ℤ◌, ◌-ℤ◌, ◌≤ℤ◌, ◌<ℤ◌, Some, None, subst, arith, pow_pos}
+use Rattle.std.proofs.Common.{◌≡◌, ◌^◌, true, false, eqb, ℤ, pos, ◌+ℤ◌, ◌-ℤ◌, ◌≤ℤ◌, ◌<ℤ◌, Some, None, Option, sym, subst, arith, pow_pos}
+use Rattle.std.specs.Bool.{then_some}
+use Rattle.std.specs.Prelude.{int_le}
 use Rattle.std.proofs.lemmas.Int.{ints, clamps, by_lt_z}
 use Rattle.std.proofs.lemmas.Bool.{eqb-true, eq-eqb}
 use Rattle.statements.specs.Numbers.{top, bottom, inside, InU, Within, raised, lowered}
 use Rattle.statements.specs.Search.{LeastFrom, GreatestTo}
 use Rattle.statements.specs.Aligned.{multiple, aligned, rest}
 use Rattle.statements.specs.declared.residue.Residue.{Residue}
-use Rattle.statements.proofs.Tests.{test_no, test_ext, and_left, and_right, and_made, inside_made, inside_of}
+use Rattle.statements.proofs.Tests.{test_no, test_ext, then_some_both, le_of, le_no_of, and_left, and_right, and_made, inside_made, inside_of}
 use Rattle.statements.proofs.Multiples.{Multiple, multiple_of, multiple_made, multiple-gap, multiple_neg, rest_below, rest-multiple, rest_unique}
 
 module _ (a : Residue) where
@@ -66,6 +68,12 @@ module _ (a : Residue) where
     aligned_no_least h m k =
         by_lt_z m v (λ l. passed_up m k l) (λ l. test_no (aligned a m) (λ e. let u = aligned_within m e in omega (arith, ints)))
 
+    -- What the code answers: v, kept where it is a number of U.
+    pub aligned_first : (o : Option ℤ) → o ≡ then_some (int_le v top) v → LeastFrom (aligned a) n o
+    aligned_first o e =
+        subst (LeastFrom (aligned a) n) (sym e)
+        (then_some_both (LeastFrom (aligned a) n) (int_le v top) v (λ t. aligned-least (le_of v top t)) (λ t. aligned_no_least (le_no_of v top t)))
+
   -- Downward: v is `to`, which is n lowered, less what it has beyond the last number that leaves the rest.
   module _ (n to z x v : ℤ) (is : to ≡ lowered n) (at : z ≡ (to -ℤ pos a.r)) (left : x ≡ pos (rest (2 ^ a.k) z)) (less : v ≡ (to -ℤ x)) where
     down-multiple : Multiple (2 ^ a.k) (v -ℤ pos a.r)
@@ -89,3 +97,9 @@ module _ (a : Residue) where
     pub aligned_no_greatest : v <ℤ bottom → GreatestTo (aligned a) n None
     aligned_no_greatest h m k =
         by_lt_z v m (λ l. passed_down m k l) (λ l. test_no (aligned a m) (λ e. let u = aligned_within m e in omega (arith, ints)))
+
+    -- What the code answers: v, kept where it is a number of U.
+    pub aligned_last : (o : Option ℤ) → o ≡ then_some (int_le bottom v) v → GreatestTo (aligned a) n o
+    aligned_last o e =
+        subst (GreatestTo (aligned a) n) (sym e)
+        (then_some_both (GreatestTo (aligned a) n) (int_le bottom v) v (λ t. aligned_greatest (le_of bottom v t)) (λ t. aligned_no_greatest (le_no_of bottom v t)))

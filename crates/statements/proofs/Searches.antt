@@ -1,8 +1,9 @@
 -- The laws of least, greatest, lowest and highest.
 use Rattle.std.proofs.Common.{◌≡◌, ℕ, zero, suc, Bool, true, false, cond, ℤ, pos, negsuc, ◌+ℤ◌, ◌-ℤ◌, ◌≤ℤ◌, ◌<ℤ◌, Some, None, Option, sym, refl, ap, subst, arith}
+use Rattle.std.specs.Option.{is_none, unwrap_or}
 use Rattle.std.proofs.lemmas.Int.{ints, clamps, by_lt_z}
 use Rattle.statements.specs.Numbers.{top, bottom, InU, Within, raised, lowered}
-use Rattle.statements.specs.Search.{LeastFrom, GreatestTo, seek_up, seek_down, count, least_from, greatest_to, or_else, lowest, highest, absent, allows_none}
+use Rattle.statements.specs.Search.{LeastFrom, GreatestTo, seek_up, seek_down, count, least_from, greatest_to, lowest, highest, allows_none}
 use Rattle.statements.proofs.Tests.{test_clash, test_no, test_cases}
 
 count_le : (z : ℤ) → z ≤ℤ pos (count z)
@@ -103,65 +104,65 @@ module _ (a : ℤ → Bool) (w : Within a) where
   pub greatest_to_is : (n : ℤ) (o : Option ℤ) → GreatestTo a n o → o ≡ greatest_to a n
   greatest_to_is n o h = greatest_unique a n o (greatest_to a n) h (greatest_to_greatest n)
 
-  -- What is allowed from n up is not below the least, whatever stands for an absent one.
-  pub least_from_le : (d n v : ℤ) → n ≤ℤ v → a v ≡ true → or_else d (least_from a n) ≤ℤ v
+  -- What is allowed from n up is not below the least, whatever stands for an is_none one.
+  pub least_from_le : (d n v : ℤ) → n ≤ℤ v → a v ≡ true → unwrap_or (least_from a n) d ≤ℤ v
   least_from_le d n v h e = go (least_from a n) (least_from-least n)
     where
-      go : (o : Option ℤ) → LeastFrom a n o → or_else d o ≤ℤ v
+      go : (o : Option ℤ) → LeastFrom a n o → unwrap_or o d ≤ℤ v
       go (Some x) p = by_lt_z v x (λ l. test_clash e (p.2 v h l)) (λ l. l)
       go None p = test_clash e (p v h)
 
-  pub greatest_to_ge : (d n v : ℤ) → v ≤ℤ n → a v ≡ true → v ≤ℤ or_else d (greatest_to a n)
+  pub greatest_to_ge : (d n v : ℤ) → v ≤ℤ n → a v ≡ true → v ≤ℤ unwrap_or (greatest_to a n) d
   greatest_to_ge d n v h e = go (greatest_to a n) (greatest_to_greatest n)
     where
-      go : (o : Option ℤ) → GreatestTo a n o → v ≤ℤ or_else d o
+      go : (o : Option ℤ) → GreatestTo a n o → v ≤ℤ unwrap_or o d
       go (Some x) p = by_lt_z x v (λ l. test_clash e (p.2 v h l)) (λ l. l)
       go None p = test_clash e (p v h)
 
   -- The least from n up is allowed, where there is one.
-  pub least_from-allowed : (d n : ℤ) → or_else d (least_from a n) <ℤ d → a (or_else d (least_from a n)) ≡ true
+  pub least_from-allowed : (d n : ℤ) → unwrap_or (least_from a n) d <ℤ d → a (unwrap_or (least_from a n) d) ≡ true
   least_from-allowed d n = go (least_from a n) (least_from-least n)
     where
-      go : (o : Option ℤ) → LeastFrom a n o → or_else d o <ℤ d → a (or_else d o) ≡ true
+      go : (o : Option ℤ) → LeastFrom a n o → unwrap_or o d <ℤ d → a (unwrap_or o d) ≡ true
       go (Some x) p h = p.1
       go None p h = absurd (omega (arith, ints))
 
-  pub greatest_to-allowed : (d n : ℤ) → d <ℤ or_else d (greatest_to a n) → a (or_else d (greatest_to a n)) ≡ true
+  pub greatest_to-allowed : (d n : ℤ) → d <ℤ unwrap_or (greatest_to a n) d → a (unwrap_or (greatest_to a n) d) ≡ true
   greatest_to-allowed d n = go (greatest_to a n) (greatest_to_greatest n)
     where
-      go : (o : Option ℤ) → GreatestTo a n o → d <ℤ or_else d o → a (or_else d o) ≡ true
+      go : (o : Option ℤ) → GreatestTo a n o → d <ℤ unwrap_or o d → a (unwrap_or o d) ≡ true
       go (Some x) p h = p.1
       go None p h = absurd (omega (arith, ints))
 
   -- The least from n up is not below n.
-  pub least_from_ge : (d n : ℤ) → n ≤ℤ d → n ≤ℤ or_else d (least_from a n)
+  pub least_from_ge : (d n : ℤ) → n ≤ℤ d → n ≤ℤ unwrap_or (least_from a n) d
   least_from_ge d n h = go (least_from a n) (least_from-least n)
     where
-      go : (o : Option ℤ) → LeastFrom a n o → n ≤ℤ or_else d o
+      go : (o : Option ℤ) → LeastFrom a n o → n ≤ℤ unwrap_or o d
       go (Some x) p = p.0
       go None p = h
 
-  pub greatest_to_le : (d n : ℤ) → d ≤ℤ n → or_else d (greatest_to a n) ≤ℤ n
+  pub greatest_to_le : (d n : ℤ) → d ≤ℤ n → unwrap_or (greatest_to a n) d ≤ℤ n
   greatest_to_le d n h = go (greatest_to a n) (greatest_to_greatest n)
     where
-      go : (o : Option ℤ) → GreatestTo a n o → or_else d o ≤ℤ n
+      go : (o : Option ℤ) → GreatestTo a n o → unwrap_or o d ≤ℤ n
       go (Some x) p = p.0
       go None p = h
 
   -- From a higher number up the least is no lower.
-  pub least_from_mono : (d n m : ℤ) → top ≤ℤ d → n ≤ℤ m → or_else d (least_from a n) ≤ℤ or_else d (least_from a m)
+  pub least_from_mono : (d n m : ℤ) → top ≤ℤ d → n ≤ℤ m → unwrap_or (least_from a n) d ≤ℤ unwrap_or (least_from a m) d
   least_from_mono d n m t h = go (least_from a m) (least_from-least m) (least_from a n) (least_from-least n)
     where
-      go : (o : Option ℤ) → LeastFrom a m o → (p : Option ℤ) → LeastFrom a n p → or_else d p ≤ℤ or_else d o
+      go : (o : Option ℤ) → LeastFrom a m o → (p : Option ℤ) → LeastFrom a n p → unwrap_or p d ≤ℤ unwrap_or o d
       go (Some x) k (Some y) l = by_lt_z x y (λ j. let g = k.0 in test_clash k.1 (l.2 x (omega (arith, ints)) j)) (λ j. j)
       go (Some x) k None l = let g = k.0 in test_clash k.1 (l x (omega (arith, ints)))
       go None k (Some y) l = let u = w y l.1 in omega (arith, ints)
       go None k None l = omega (arith, ints)
 
-  pub greatest_to_mono : (d n m : ℤ) → d ≤ℤ bottom → n ≤ℤ m → or_else d (greatest_to a n) ≤ℤ or_else d (greatest_to a m)
+  pub greatest_to_mono : (d n m : ℤ) → d ≤ℤ bottom → n ≤ℤ m → unwrap_or (greatest_to a n) d ≤ℤ unwrap_or (greatest_to a m) d
   greatest_to_mono d n m t h = go (greatest_to a n) (greatest_to_greatest n) (greatest_to a m) (greatest_to_greatest m)
     where
-      go : (o : Option ℤ) → GreatestTo a n o → (p : Option ℤ) → GreatestTo a m p → or_else d o ≤ℤ or_else d p
+      go : (o : Option ℤ) → GreatestTo a n o → (p : Option ℤ) → GreatestTo a m p → unwrap_or o d ≤ℤ unwrap_or p d
       go (Some x) k (Some y) l = by_lt_z y x (λ j. let g = k.0 in test_clash k.1 (l.2 x (omega (arith, ints)) j)) (λ j. j)
       go (Some x) k None l = let g = k.0 in test_clash k.1 (l x (omega (arith, ints)))
       go None k (Some y) l = let u = w y l.1 in omega (arith, ints)
@@ -169,13 +170,13 @@ module _ (a : ℤ → Bool) (w : Within a) where
 
   -- ---- lowest and highest
 
-  pub lowest_is : (o : Option ℤ) → LeastFrom a bottom o → or_else top o ≡ lowest a
+  pub lowest_is : (o : Option ℤ) → LeastFrom a bottom o → unwrap_or o top ≡ lowest a
   unfolding lowest
-  lowest_is o h = ap (or_else top) (least_from_is bottom o h)
+  lowest_is o h = ap (λ o. unwrap_or o top) (least_from_is bottom o h)
 
-  pub highest_is : (o : Option ℤ) → GreatestTo a top o → or_else bottom o ≡ highest a
+  pub highest_is : (o : Option ℤ) → GreatestTo a top o → unwrap_or o bottom ≡ highest a
   unfolding highest
-  highest_is o h = ap (or_else bottom) (greatest_to_is top o h)
+  highest_is o h = ap (λ o. unwrap_or o bottom) (greatest_to_is top o h)
 
   pub lowest_le : (n : ℤ) → a n ≡ true → lowest a ≤ℤ n
   unfolding lowest
@@ -189,7 +190,7 @@ module _ (a : ℤ → Bool) (w : Within a) where
   unfolding lowest
   lowest_in = go (least_from a bottom) (least_from-least bottom)
     where
-      go : (o : Option ℤ) → LeastFrom a bottom o → InU (or_else top o)
+      go : (o : Option ℤ) → LeastFrom a bottom o → InU (unwrap_or o top)
       go (Some x) p = w x p.1
       go None p = (omega (arith, ints), omega (arith, ints))
 
@@ -197,7 +198,7 @@ module _ (a : ℤ → Bool) (w : Within a) where
   unfolding highest
   highest_in = go (greatest_to a top) (greatest_to_greatest top)
     where
-      go : (o : Option ℤ) → GreatestTo a top o → InU (or_else bottom o)
+      go : (o : Option ℤ) → GreatestTo a top o → InU (unwrap_or o bottom)
       go (Some x) p = w x p.1
       go None p = (omega (arith, ints), omega (arith, ints))
 
@@ -206,7 +207,7 @@ module _ (a : ℤ → Bool) (w : Within a) where
   unfolding lowest
   lowest-allowed n e = go (least_from a bottom) (least_from-least bottom)
     where
-      go : (o : Option ℤ) → LeastFrom a bottom o → a (or_else top o) ≡ true
+      go : (o : Option ℤ) → LeastFrom a bottom o → a (unwrap_or o top) ≡ true
       go (Some x) p = p.1
       go None p = test_clash e (p n (w n e).0)
 
@@ -214,7 +215,7 @@ module _ (a : ℤ → Bool) (w : Within a) where
   unfolding highest
   highest-allowed n e = go (greatest_to a top) (greatest_to_greatest top)
     where
-      go : (o : Option ℤ) → GreatestTo a top o → a (or_else bottom o) ≡ true
+      go : (o : Option ℤ) → GreatestTo a top o → a (unwrap_or o bottom) ≡ true
       go (Some x) p = p.1
       go None p = test_clash e (p n (w n e).1)
 
@@ -227,15 +228,15 @@ module _ (a : ℤ → Bool) (w : Within a) where
 
   -- ---- allows none
 
-  pub allows_none_is : (o : Option ℤ) → LeastFrom a bottom o → absent o ≡ allows_none a
+  pub allows_none_is : (o : Option ℤ) → LeastFrom a bottom o → is_none o ≡ allows_none a
   unfolding allows_none
-  allows_none_is o h = ap absent (least_from_is bottom o h)
+  allows_none_is o h = ap is_none (least_from_is bottom o h)
 
   pub allows_none_no : (n : ℤ) → a n ≡ true → allows_none a ≡ false
   unfolding allows_none
   allows_none_no n e = go (least_from a bottom) (least_from-least bottom)
     where
-      go : (o : Option ℤ) → LeastFrom a bottom o → absent o ≡ false
+      go : (o : Option ℤ) → LeastFrom a bottom o → is_none o ≡ false
       go (Some x) p = refl
       go None p = test_clash e (p n (w n e).0)
 
@@ -247,7 +248,7 @@ module _ (a : ℤ → Bool) (w : Within a) where
   unfolding allows_none lowest
   lowest-some = go (least_from a bottom) (least_from-least bottom)
     where
-      go : (o : Option ℤ) → LeastFrom a bottom o → absent o ≡ false → a (or_else top o) ≡ true
+      go : (o : Option ℤ) → LeastFrom a bottom o → is_none o ≡ false → a (unwrap_or o top) ≡ true
       go (Some x) p h = p.1
       go None p h = test_clash refl h
 

@@ -1,6 +1,7 @@
 -- Tests as facts: yes and no, and the order of whole numbers.
-use Rattle.std.proofs.Common.{◌≡◌, Bool, true, false, ◌&&◌, T, ℤ, ◌≤ℤ◌, ◌<ℤ◌, sym, refl, ◌∙◌, subst, arith}
+use Rattle.std.proofs.Common.{◌≡◌, Bool, true, false, ◌&&◌, T, Some, None, Option, ℤ, ◌≤ℤ◌, ◌<ℤ◌, sym, refl, ◌∙◌, subst, arith}
 use lib.Signed.{le_z}
+use Rattle.std.specs.Bool.{then_some}
 use Rattle.std.proofs.lemmas.Int.{ints, clamps}
 use Rattle.statements.specs.Numbers.{top, bottom, inside, raised, lowered}
 
@@ -44,6 +45,11 @@ and_no_left a b e = subst (λ x. (x && b) ≡ false) (sym e) refl
 pub and_no_right : (a b : Bool) → b ≡ false → (a && b) ≡ false
 and_no_right true b e = e
 and_no_right false b e = refl
+
+-- What holds of Some x where the test is yes, and of None where it is no, holds of what `then_some` gives.
+pub then_some_both : {A : Type 0} (P : Option A → Type 0) (b : Bool) (x : A) → (b ≡ true → P (Some x)) → (b ≡ false → P None) → P (then_some b x)
+then_some_both P true x p q = p refl
+then_some_both P false x p q = q refl
 
 -- ---- order
 

@@ -1,5 +1,6 @@
 -- The least number from one upward and the greatest from one downward that a test allows; its lowest and its highest.
 use Rattle.std.specs.Prelude.{◌≡◌, ℕ, zero, suc, Bool, true, false, cond, ℤ, pos, negsuc, ◌+ℤ◌, ◌-ℤ◌, ◌≤ℤ◌, ◌<ℤ◌, Some, None, Option}
+use Rattle.std.specs.Option.{is_none, unwrap_or}
 use Rattle.statements.specs.Numbers.{top, bottom, raised, lowered}
 
 -- r is the least number from n up that `a` allows, absent where there is none.
@@ -35,24 +36,18 @@ least_from a n = seek_up a (count ((top +ℤ pos 1) -ℤ raised n)) (raised n)
 unfoldable pub greatest_to : (ℤ → Bool) → ℤ → Option ℤ
 greatest_to a n = seek_down a (count (lowered n -ℤ (bottom -ℤ pos 1))) (lowered n)
 
--- v where there is one, else d.
+-- What is there, else d.
 abbrev pub or_else : ℤ → Option ℤ → ℤ
-or_else d (Some v) = v
-or_else d None = d
+or_else d o = unwrap_or o d
 
 -- The lowest number of U that `a` allows, M where it allows none.
 unfoldable pub lowest : (ℤ → Bool) → ℤ
-lowest a = or_else top (least_from a bottom)
+lowest a = unwrap_or (least_from a bottom) top
 
 -- The highest number of U that `a` allows, -M where it allows none.
 unfoldable pub highest : (ℤ → Bool) → ℤ
-highest a = or_else bottom (greatest_to a top)
-
--- Is there nothing in it?
-abbrev pub absent : Option ℤ → Bool
-absent (Some v) = false
-absent None = true
+highest a = unwrap_or (greatest_to a top) bottom
 
 -- Does `a` allow no number of U?
 unfoldable pub allows_none : (ℤ → Bool) → Bool
-allows_none a = absent (least_from a bottom)
+allows_none a = is_none (least_from a bottom)

@@ -42,7 +42,7 @@ impl Residue {
         }
         let from = raised(n);
         let v = from + self.rest(i64::from(self.r) - from);
-        if v <= TOP { Some(v) } else { None }
+        (v <= TOP).then_some(v)
     }
 
     /// The greatest number of U from n down that leaves this rest.
@@ -54,6 +54,6 @@ impl Residue {
         }
         let to = lowered(n);
         let v = to - self.rest(to - i64::from(self.r));
-        if BOTTOM <= v { Some(v) } else { None }
+        (BOTTOM <= v).then_some(v)
     }
 }

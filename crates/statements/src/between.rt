@@ -5,25 +5,34 @@ ghost use Rattle.statements.specs.Search.{LeastFrom, GreatestTo};
 
 use crate::numbers::{lowered, raised};
 
-/// Is n one of lo to hi?
-pub fn allows(lo: i64, hi: i64, n: i64) -> bool
-    ensures { result ≡ between lo hi n }
-{
-    raised(lo) <= n && n <= lowered(hi)
+/// The numbers of U from lo to hi, of which there may be none.
+#[derive(Clone, Copy)]
+pub struct Between {
+    pub lo: i64,
+    pub hi: i64,
 }
 
-/// The least of lo to hi from n up.
-pub fn least_from(lo: i64, hi: i64, n: i64) -> Option<i64>
-    ensures { LeastFrom (between lo hi) n result }
-{
-    let v = n.max(raised(lo));
-    if v <= lowered(hi) { Some(v) } else { None }
-}
+impl Between {
+    /// Is n one of them?
+    pub fn allows(self, n: i64) -> bool
+        ensures { result ≡ between self.lo self.hi n }
+    {
+        raised(self.lo) <= n && n <= lowered(self.hi)
+    }
 
-/// The greatest of lo to hi from n down.
-pub fn greatest_to(lo: i64, hi: i64, n: i64) -> Option<i64>
-    ensures { GreatestTo (between lo hi) n result }
-{
-    let v = n.min(lowered(hi));
-    if raised(lo) <= v { Some(v) } else { None }
+    /// The least of them from n up.
+    pub fn least_from(self, n: i64) -> Option<i64>
+        ensures { LeastFrom (between self.lo self.hi) n result }
+    {
+        let v = n.max(raised(self.lo));
+        (v <= lowered(self.hi)).then_some(v)
+    }
+
+    /// The greatest of them from n down.
+    pub fn greatest_to(self, n: i64) -> Option<i64>
+        ensures { GreatestTo (between self.lo self.hi) n result }
+    {
+        let v = n.min(lowered(self.hi));
+        (raised(self.lo) <= v).then_some(v)
+    }
 }

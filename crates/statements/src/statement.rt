@@ -4,12 +4,12 @@ ghost use Rattle.statements.specs.Numbers.{InU};
 ghost use Rattle.statements.specs.Search.{LeastFrom, GreatestTo, lowest, highest};
 ghost use Rattle.statements.specs.Statements.{allowed};
 
-use crate::between;
+use crate::between::Between;
 use crate::numbers::{BOTTOM, TOP};
 use crate::residue::Residue;
 
 /// What can be said of a number of U.
-#[derive(Clone, Copy)]
+#[derive(Clone, Copy, PartialEq, Eq, Debug)]
 pub enum Statement {
     Between(i64, i64),
     Aligned(Residue),
@@ -21,7 +21,7 @@ impl Statement {
         ensures { result ≡ allowed self n }
     {
         match self {
-            Statement::Between(lo, hi) => between::allows(lo, hi, n),
+            Statement::Between(lo, hi) => Between { lo, hi }.allows(n),
             Statement::Aligned(a) => a.allows(n),
         }
     }
@@ -31,7 +31,7 @@ impl Statement {
         ensures { LeastFrom (allowed self) n result }
     {
         match self {
-            Statement::Between(lo, hi) => between::least_from(lo, hi, n),
+            Statement::Between(lo, hi) => Between { lo, hi }.least_from(n),
             Statement::Aligned(a) => a.least_from(n),
         }
     }
@@ -41,7 +41,7 @@ impl Statement {
         ensures { GreatestTo (allowed self) n result }
     {
         match self {
-            Statement::Between(lo, hi) => between::greatest_to(lo, hi, n),
+            Statement::Between(lo, hi) => Between { lo, hi }.greatest_to(n),
             Statement::Aligned(a) => a.greatest_to(n),
         }
     }
@@ -51,10 +51,7 @@ impl Statement {
         ensures is { result ≡ lowest (allowed self) }
         ensures within { InU result }
     {
-        match self.least_from(BOTTOM) {
-            Some(v) => v,
-            None => TOP,
-        }
+        self.least_from(BOTTOM).unwrap_or(TOP)
     }
 
     /// The highest number that it allows, or -M where it allows none.
@@ -62,9 +59,6 @@ impl Statement {
         ensures is { result ≡ highest (allowed self) }
         ensures within { InU result }
     {
-        match self.greatest_to(TOP) {
-            Some(v) => v,
-            None => BOTTOM,
-        }
+        self.greatest_to(TOP).unwrap_or(BOTTOM)
     }
 }

@@ -1,20 +1,9 @@
 -- The greatest number from M down is the highest.
-use Rattle.std.proofs.Common.{Some, None, arith}
-use Rattle.std.proofs.lemmas.Int.{ints}
-use Rattle.statements.specs.Statements.{allowed}
+use Rattle.std.proofs.Common.{arith}
+use Rattle.std.proofs.lemmas.Int.{to_z-of_z}
 use Rattle.statements.proofs.Searches.{highest_is}
 use Rattle.statements.proofs.Statements.{allowed_within}
 use Rattle.statements.proofs.statement.Statement.highest.Goals as goal
 
-pub returns-in-Some : goal.returns-in-Some
-returns-in-Some c =
-    let s = c.args.self in
-    let v = c.in-Some.v in
-    let e = highest_is (allowed s) (allowed_within s) (Some v) c.in-Some.ensures in
-    let u = allowed_within s v c.in-Some.ensures.1 in
-    record { is = omega (arith, ints); within = (omega (arith, ints), omega (arith, ints)) }
-
-pub returns-in-None : goal.returns-in-None
-returns-in-None c =
-    let s = c.args.self in
-    record { is = highest_is (allowed s) (allowed_within s) None c.in-None.ensures; within = (omega (arith, ints), omega (arith, ints)) }
+pub returns-clause-is : goal.returns-clause-is
+returns-clause-is c = grind (arith, to_z-of_z, highest_is, allowed_within)
