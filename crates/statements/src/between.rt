@@ -17,7 +17,7 @@ impl Between {
     pub fn allows(self, n: i64) -> bool
         ensures { result ≡ between self.lo self.hi n }
     {
-        raised(self.lo) <= n && n <= lowered(self.hi)
+        (raised(self.lo)..=lowered(self.hi)).contains(&n)
     }
 
     /// The least of them from n up.

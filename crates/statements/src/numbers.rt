@@ -12,7 +12,7 @@ pub const BOTTOM: i64 = -4_294_967_295;
 pub fn is_number(n: i64) -> bool
     ensures { result ≡ inside bottom top n }
 {
-    BOTTOM <= n && n <= TOP
+    (BOTTOM..=TOP).contains(&n)
 }
 
 /// A lower end, raised to at least -M.

@@ -1,0 +1,7 @@
+-- A Between allows the numbers of its range.
+use Rattle.std.proofs.Common.{arith}
+use Rattle.std.proofs.lemmas.Int.{ints, to_z-of_z}
+use Rattle.statements.proofs.between.Between.allows.Goals as goal
+
+pub returns : goal.returns
+returns c = grind (arith, ints, to_z-of_z)
