@@ -34,15 +34,10 @@ impl<A: Kind, B: Kind> Kind for Both<A, B> {
 
     // The parts take turns: each goes on from where the other stands, until they agree or one has no more.
     fn next(self, n: i64) -> Option<i64> {
-        let Both { first, second } = self;
         let mut from = n;
         loop {
-            let Some(v) = first.next(from) else {
-                return None;
-            };
-            let Some(w) = second.next(v) else {
-                return None;
-            };
+            let v = self.first.next(from)?;
+            let w = self.second.next(v)?;
             if w == v {
                 return Some(v);
             }
@@ -51,15 +46,10 @@ impl<A: Kind, B: Kind> Kind for Both<A, B> {
     }
 
     fn last(self, n: i64) -> Option<i64> {
-        let Both { first, second } = self;
         let mut to = n;
         loop {
-            let Some(v) = first.last(to) else {
-                return None;
-            };
-            let Some(w) = second.last(v) else {
-                return None;
-            };
+            let v = self.first.last(to)?;
+            let w = self.second.last(v)?;
             if w == v {
                 return Some(v);
             }

@@ -12,10 +12,7 @@ pub fn lowest<K: Kind>(f: K) -> i64
     ensures is { result ≡ low K.model f }
     ensures within { InU result }
 {
-    match f.next(BOTTOM) {
-        Some(v) => v,
-        None => TOP,
-    }
+    f.next(BOTTOM).unwrap_or(TOP)
 }
 
 /// The highest number that f allows, or -M where it allows none.
@@ -23,20 +20,14 @@ pub fn highest<K: Kind>(f: K) -> i64
     ensures is { result ≡ high K.model f }
     ensures within { InU result }
 {
-    match f.last(TOP) {
-        Some(v) => v,
-        None => BOTTOM,
-    }
+    f.last(TOP).unwrap_or(BOTTOM)
 }
 
 /// Does f allow no number?
 pub fn allows_none<K: Kind>(f: K) -> bool
     ensures { result ≡ none K.model f }
 {
-    match f.next(BOTTOM) {
-        Some(_) => false,
-        None => true,
-    }
+    f.next(BOTTOM).is_none()
 }
 
 /// f merged with the Between of its lowest and highest.
@@ -62,13 +53,12 @@ pub fn narrow<K: Kind>(facts: &mut [K], s: Statement) -> usize
 {
     let g = K::state(s);
     let mut changed = 0;
-    for i in 0..facts.len() {
-        let f = facts[i];
-        let h = told(f, g);
-        facts[i] = h;
-        if !h.same(f) {
+    for f in facts.iter_mut() {
+        let h = told(*f, g);
+        if !h.same(*f) {
             changed += 1;
         }
+        *f = h;
     }
     changed
 }

@@ -1,21 +1,10 @@
 -- The greatest number from M down is the highest.
-use Rattle.std.proofs.Common.{Some, None, arith}
-use Rattle.std.proofs.lemmas.Int.{ints}
+use Rattle.std.proofs.Common.{arith}
+use Rattle.std.proofs.lemmas.Int.{to_z-of_z}
 use Rattle.statements.proofs.Searches.{highest_is}
 use Rattle.facts.specs.Derived.{high}
 use Rattle.facts.proofs.tidy.highest.Goals as goal
 
-pub returns-in-Some : goal.returns-in-Some
+pub returns-clause-is : goal.returns-clause-is
 unfolding high
-returns-in-Some g c =
-    let a = g.K.Kind.model.allows c.args.f in
-    let w = g.met.K.Kind.lawful.allows_within c.args.f in
-    let e = highest_is a w (Some c.in-Some.v) c.in-Some.ensures in
-    let u = w c.in-Some.v c.in-Some.ensures.1 in
-    record { is = omega (arith, ints); within = (omega (arith, ints), omega (arith, ints)) }
-
-pub returns-in-None : goal.returns-in-None
-unfolding high
-returns-in-None g c =
-    let w = g.met.K.Kind.lawful.allows_within c.args.f in
-    record { is = highest_is (g.K.Kind.model.allows c.args.f) w None c.in-None.ensures; within = (omega (arith, ints), omega (arith, ints)) }
+returns-clause-is g c = let w = g.met.K.Kind.lawful.allows_within c.args.f in grind (arith, to_z-of_z, highest_is)

@@ -1,8 +1,8 @@
 -- Being told is a merge, tidied.
-use Rattle.std.proofs.Common.{ap, ◌∙◌}
-use Rattle.facts.specs.Derived.{tidy, told}
+use Rattle.std.proofs.Common.{arith}
+use Rattle.facts.specs.Derived.{told}
 use Rattle.facts.proofs.tidy.told.Goals as goal
 
 pub returns : goal.returns
 unfolding told
-returns g c = c.tidy.ensures.is ∙ ap (tidy g.K.Kind.model) c.merge.ensures
+returns g c = grind arith
