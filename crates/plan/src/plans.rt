@@ -30,9 +30,9 @@ fn is_named_below(form: Form, cells: usize) -> bool
 {
     match form {
         Form::State(c, _) => c < cells,
-        Form::Sum(a, b, c) => (a < cells) & (b < cells) & (c < cells),
-        Form::Gap(a, _, b) => (a < cells) & (b < cells),
-        Form::Apart(a, _, b, _) => (a < cells) & (b < cells),
+        Form::Sum(a, b, c) => a < cells && b < cells && c < cells,
+        Form::Gap(a, _, b) => a < cells && b < cells,
+        Form::Apart(a, _, b, _) => a < cells && b < cells,
     }
 }
 
@@ -56,7 +56,7 @@ fn is_owner_known(owner: Option<usize>, premises: usize) -> bool
 pub fn is_known(k: Constraint, cells: usize, premises: usize) -> bool
     ensures { result ≡ known cells premises k }
 {
-    is_named_below(k.form, cells) & (is_owner_known(k.owner, premises) & is_ranged(k.form))
+    is_named_below(k.form, cells) && is_owner_known(k.owner, premises) && is_ranged(k.form)
 }
 
 fn are_known(constraints: &[Constraint], cells: usize, premises: usize) -> bool
@@ -81,8 +81,9 @@ impl Draft {
     pub fn is_few(&self) -> bool
         ensures { result ≡ few (drafted self.now) }
     {
-        (self.cells.len() <= CELLS)
-            & ((self.premises.len() <= PREMISES) & (self.constraints.len() <= CONSTRAINTS))
+        self.cells.len() <= CELLS
+            && self.premises.len() <= PREMISES
+            && self.constraints.len() <= CONSTRAINTS
     }
 
     /// Whether a plan may hold this.
@@ -91,7 +92,7 @@ impl Draft {
     {
         let cells = self.cells.len();
         let premises = self.premises.len();
-        self.is_few() & are_known(self.constraints.as_slice(), cells, premises)
+        self.is_few() && are_known(self.constraints.as_slice(), cells, premises)
     }
 
     fn clear(&mut self)
