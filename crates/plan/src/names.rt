@@ -51,24 +51,20 @@ impl Declared for Place {
     }
 }
 
-fn name_at<'a>(place: Option<Place>, texts: Texts<'a>) -> Option<&'a [u8]>
-    ensures { option_copied result ≡ name_at (texts_of texts.entry) place }
-{
-    texts.part(place?)
-}
-
-fn is_spelled(found: Option<&[u8]>, name: &[u8]) -> bool
-    ensures { result ≡ spells (option_copied found.entry) name.now }
-{
-    found == Some(name)
+impl<'a> Texts<'a> {
+    /// The name of what was declared: absent for a helper, or where the text is too short or is neither of the two.
+    pub fn name<D: Declared>(self, declared: D) -> Option<&'a [u8]>
+        ensures { option_copied result ≡ name_at (texts_of self.entry) (D.place declared) }
+    {
+        self.part(declared.place()?)
+    }
 }
 
 /// The number of what was declared under a name, absent where there is none.
 pub fn find<D: Declared>(all: &[D], texts: Texts<'_>, name: &[u8]) -> Option<usize>
     ensures { result ≡ named_by D.place (texts_of texts.entry) all.now name.now }
 {
-    all.iter()
-        .position(|d| is_spelled(name_at(d.place(), texts), name))
+    all.iter().position(|d| texts.name(*d) == Some(name))
 }
 
 fn name_in<'a, D: Declared>(
@@ -79,7 +75,7 @@ fn name_in<'a, D: Declared>(
     ensures { answered result ≡ name_in D.place (texts_of texts.entry) (slice_get all.now i) }
 {
     let declared = all.get(i).ok_or(Refusal::NoSuch)?;
-    Ok(name_at(declared.place(), texts))
+    Ok(texts.name(*declared))
 }
 
 impl Plan {
