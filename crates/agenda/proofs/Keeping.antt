@@ -1,8 +1,8 @@
 -- What a ring keeps true as a number comes or is taken: its set and its order agree.
-use Rattle.std.proofs.Common.{◌≡◌, ℕ, ◌+◌, ◌-◌, ◌<◌, ◌≤◌, true, false, not, ◌&&◌, ◌||◌, eqb, ltb, ◌⊎◌, List, [], ◌∷◌, ◌++◌, sym, refl, ap, ◌∙◌, subst, ⊎_elim, arith}
+use Rattle.std.proofs.Common.{◌≡◌, ℕ, suc, ◌+◌, ◌<◌, ◌≤◌, true, false, not, ◌&&◌, ◌||◌, eqb, ltb, ◌⊎◌, List, [], ◌∷◌, ◌++◌, sym, refl, ap, ◌∙◌, subst, ⊎_elim, arith}
 use Rattle.std.proofs.lemmas.Bool.{both_ways, cases_eq, eq-eqb, ne_eqb, eqb-true, and_from, and_left, and_right, and_parts, or_left, or_cases, not_from_true, not_from_false, lt-ltb, le-ltb, ltb-true, cond-true, cond-false}
 use Rattle.sets.specs.Members.{Members, Nobody, Joined, Parted, among, count}
-use Rattle.sets.proofs.Joining.{below_limit, joined_above, joined_again}
+use Rattle.sets.proofs.Joining.{below_limit}
 use Rattle.sets.proofs.Counts.{count_le, count_joined, count_parted, count_room, count_none}
 use Rattle.sets.proofs.Lists.{among_push}
 use Rattle.agenda.specs.declared.ring.Ring.{Ring}
@@ -70,10 +70,7 @@ module _ {s : Members} {xs : List ℕ} {len : ℕ} (known : Kept s xs len) where
     unfolding pushed
     put_order = sym (cond-true _ _ _ (and_from _ _ (lt-ltb k 512 small) (not_from_false _ (sym (known.agrees k) ∙ new))))
 
-  -- A number that waits already, or is too large, changes neither the set nor the order.
-  pub same_set : (k : ℕ) → (512 ≤ k) ⊎ (s k ≡ true) → Joined 512 s k s
-  same_set k why = ⊎_elim (joined_above 512 k s) (joined_again 512 k s) why
-
+  -- A number that waits already, or is too large, leaves the order as it is.
   pub same_order : (k : ℕ) → (512 ≤ k) ⊎ (s k ≡ true) → xs ≡ pushed k xs
   unfolding pushed
   same_order k why =
@@ -90,8 +87,8 @@ module _ {s : Members} {xs : List ℕ} {len : ℕ} (known : Kept s xs len) where
     take-waits = known.agrees k ∙ parts.each k ∙ or_left (eqb k k) (among k ys) (eq-eqb k k refl)
 
     -- The others keep what was kept.
-    pub take-kept : (t : Members) → Parted s k t → Kept t ys (len - 1)
-    take-kept t parted =
+    pub take-kept : (t : Members) → Parted s k t → (rest : ℕ) → len ≡ suc rest → Kept t ys rest
+    take-kept t parted rest more =
         record {
           below = λ j h. known.below j (and_parts (not (eqb j k)) (s j) (sym (parted j) ∙ h)).1;
           agrees = λ j.

@@ -1,5 +1,5 @@
 -- A ring of 512 places as a list: its two ends, and a write behind its last item.
-use Rattle.std.proofs.Common.{◌≡◌, ℕ, zero, suc, ◌+◌, ◌-◌, ◌%◌, ◌<◌, List, [], ◌∷◌, ◌++◌, length, get_or, set, sym, refl, ap, ◌∙◌, add-one, arith, get_or-set_other, get_or-set_same}
+use Rattle.std.proofs.Common.{◌≡◌, ℕ, zero, suc, ◌+◌, ◌%◌, ◌<◌, List, [], ◌∷◌, ◌++◌, length, get_or, set, sym, refl, ap, ◌∙◌, add-one, arith, get_or-set_other, get_or-set_same}
 use Rattle.agenda.specs.Orders.{in_order}
 
 -- The first item of a ring stands at its head.
@@ -47,17 +47,12 @@ order_push items head n v len l =
     ∙ ap (λ r. r ++ (v ∷ [])) (order_other items p v head n (λ i q e. omega arith))
 
 -- The oldest item comes first, and the others follow from the next place on.
-pub order-front : (items : List ℕ) (head n : ℕ) → head < 512 → 0 < n → in_order items head n ≡ (get_or items head 0 ∷ in_order items ((head + 1) % 512) (n - 1))
-order-front items head zero l p = absurd (omega arith)
-order-front items head (suc n) l p =
-    let e : head % 512 ≡ head = omega arith in
-    let f : n ≡ suc n - 1 = omega arith in
-    order_next items head n ∙ ap (λ i. get_or items i 0 ∷ in_order items (head + 1) n) e
-    ∙ ap (λ r. get_or items head 0 ∷ r) (sym (order_turned items (head + 1) n) ∙ ap (in_order items ((head + 1) % 512)) f)
+pub order-front : (items : List ℕ) (head n rest : ℕ) → head < 512 → n ≡ suc rest → in_order items head n ≡ (get_or items head 0 ∷ in_order items ((head + 1) % 512) rest)
+order-front items head n rest l e =
+    let at : head % 512 ≡ head = omega arith in
+    ap (in_order items head) e ∙ order_next items head rest ∙ ap (λ i. get_or items i 0 ∷ in_order items (head + 1) rest) at
+    ∙ ap (λ r. get_or items head 0 ∷ r) (sym (order_turned items (head + 1) rest))
 
 -- The newest item comes last, behind all others.
-pub order_back : (items : List ℕ) (head n : ℕ) → 0 < n → in_order items head n ≡ in_order items head (n - 1) ++ (get_or items ((head + (n - 1)) % 512) 0 ∷ [])
-order_back items head zero p = absurd (omega arith)
-order_back items head (suc n) p =
-    let f : n ≡ suc n - 1 = omega arith in
-    order_last items head n ∙ ap (λ m. in_order items head m ++ (get_or items ((head + m) % 512) 0 ∷ [])) f
+pub order_back : (items : List ℕ) (head n rest : ℕ) → n ≡ suc rest → in_order items head n ≡ in_order items head rest ++ (get_or items ((head + rest) % 512) 0 ∷ [])
+order_back items head n rest e = ap (in_order items head) e ∙ order_last items head rest

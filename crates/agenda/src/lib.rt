@@ -2,6 +2,7 @@
 #![tactic(auto)]
 
 pub mod drain;
+pub mod line;
 pub mod lowest;
 pub mod queue;
 mod ring;

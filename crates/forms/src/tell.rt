@@ -18,7 +18,7 @@ pub enum Saying {
     UpTo(usize, i64),
 }
 
-/// When a tell is made.
+/// When a tell is made. No Option of the last: that a tell is always made is a condition too, which None would not say.
 #[derive(Clone, Copy)]
 pub enum Condition {
     Always,

@@ -1,39 +1,59 @@
-// The cells that a form names and the tells that it makes, by their places in its list.
-ghost use Rattle.std.specs.Prelude.{◌≡◌, true};
+// The cells that a form names and the tells that it makes, one after the other.
+ghost use Rattle.std.specs.Prelude.{◌≡◌, ℕ, true, List, drop};
 ghost use Rattle.std.specs.List.{slice_get};
+ghost use Rattle.std.specs.Iterator.{YieldsFirst, item_count};
 ghost use Rattle.plan.specs.Forms.{named};
 ghost use Rattle.plan.specs.Known.{ranged};
 ghost use Rattle.forms.specs.Tells.{tells, Near};
+ghost use Rattle.forms.specs.declared.tell.Tell.{Tell};
 ghost use Rattle.forms.specs.declared.tell.Condition.TheVariants.{Always};
 
 use crate::tell::{Condition, Saying, Tell};
 use plan::constraint::Form;
+use std::marker::Model;
 
 /// The i-th cell that the form names, from 0; absent past the last.
 pub fn named_at(form: Form, i: usize) -> Option<usize>
     ensures { result ≡ slice_get (named form) i }
 {
     match form {
-        Form::State(c, _) => match i {
-            0 => Some(c),
-            _ => None,
-        },
-        Form::Sum(a, b, c) => match i {
-            0 => Some(a),
-            1 => Some(b),
-            2 => Some(c),
-            _ => None,
-        },
-        Form::Gap(a, _, b) => match i {
-            0 => Some(a),
-            1 => Some(b),
-            _ => None,
-        },
-        Form::Apart(a, _, b, _) => match i {
-            0 => Some(a),
-            1 => Some(b),
-            _ => None,
-        },
+        Form::State(c, _) => [c].get(i).copied(),
+        Form::Sum(a, b, c) => [a, b, c].get(i).copied(),
+        Form::Gap(a, _, b) | Form::Apart(a, _, b, _) => [a, b].get(i).copied(),
+    }
+}
+
+/// The cells that a form names, one after the other; seen as the list of those that are still to come.
+#[derive(Drop)]
+pub struct NamedCells {
+    form: Form,
+    next: usize,
+}
+
+impl Model for NamedCells {
+    ghost Value = { List ℕ };
+
+    ghost view = { λ w. drop w.next (named w.form) };
+}
+
+/// The cells that the form names, in their order.
+pub fn named(form: Form) -> NamedCells
+    ensures { result ≡ named form }
+{
+    NamedCells { form, next: 0 }
+}
+
+impl Iterator for NamedCells {
+    type Item = usize;
+
+    ghost next_gives = { YieldsFirst (λ rest. rest) };
+
+    ghost remaining = { item_count (λ rest. rest) };
+
+    fn next(&mut self) -> Option<usize> {
+        let cell = named_at(self.form, self.next)?;
+        self.next += 1;
+        Some(cell)
     }
 }
 
@@ -97,5 +117,39 @@ pub fn tell_at(form: Form, i: usize) -> Option<Tell>
                 _ => None,
             }
         }
+    }
+}
+
+/// The tells that a form makes, one after the other; seen as the list of those that are still to come.
+#[derive(Drop)]
+pub struct FormTells {
+    form: Form,
+    next: usize,
+}
+
+impl Model for FormTells {
+    ghost Value = { List Tell };
+
+    ghost view = { λ w. drop w.next (tells w.form) };
+}
+
+/// The tells that the form makes, in their order.
+pub fn tells(form: Form) -> FormTells
+    ensures { result ≡ tells form }
+{
+    FormTells { form, next: 0 }
+}
+
+impl Iterator for FormTells {
+    type Item = Tell;
+
+    ghost next_gives = { YieldsFirst (λ rest. rest) };
+
+    ghost remaining = { item_count (λ rest. rest) };
+
+    fn next(&mut self) -> Option<Tell> {
+        let tell = tell_at(self.form, self.next)?;
+        self.next += 1;
+        Some(tell)
     }
 }

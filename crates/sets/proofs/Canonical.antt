@@ -1,6 +1,5 @@
 -- Sets below 32 with the same members are equal values.
-use Rattle.std.proofs.Common.{◌≡◌, ℕ, ◌^◌, ◌<◌, eqb, Decides, ap}
-use Rattle.std.proofs.lemmas.Bool.{eq-eqb, eqb-true}
+use Rattle.std.proofs.Common.{◌≡◌, ℕ, ◌^◌, ◌<◌, ap}
 use Rattle.sets.specs.declared.small.Set32.{Set32}
 use Rattle.sets.specs.Members.{Same}
 use Rattle.sets.specs.Small.{holds}
@@ -12,7 +11,3 @@ word x = record { bits = x }
 -- The members determine the set; each word that a program holds has 32 bits.
 pub canonical : (s t : Set32) → s.bits < 2 ^ 32 → t.bits < 2 ^ 32 → Same (holds s) (holds t) → s ≡ t
 canonical s t l m h = ap word (bits_same 32 s.bits t.bits l m h)
-
--- Comparing the words decides whether the sets are equal.
-pub value_decides : (s t : Set32) → Decides (eqb s.bits t.bits) (s ≡ t)
-value_decides s t = ((λ e. ap word (eqb-true s.bits t.bits e)), λ e. eq-eqb s.bits t.bits (ap (λ (x : Set32). x.bits) e))

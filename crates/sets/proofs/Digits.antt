@@ -115,32 +115,31 @@ bits_same (suc w) a b l m h =
 
 -- ---- the lowest and the highest one
 
--- The lowest one of the w places of a word is at k.
-pub record Lowest (a w k : ℕ) : Type 0 where
+-- The lowest one of a word is at k.
+pub record Lowest (a k : ℕ) : Type 0 where
   pub there : bits_of a k ≡ true
   pub below : (j : ℕ) → j < k → bits_of a j ≡ false
-  pub inside : k < w
 
-lowest_even : (a w k : ℕ) → a % 2 ≡ 0 → Lowest (a / 2) w k → Lowest a (suc w) (suc k)
-lowest_even a w k e h = record { there = bits_next a k ∙ h.there; below = below; inside = omega (arith, h.inside) }
+lowest_even : (a k : ℕ) → a % 2 ≡ 0 → Lowest (a / 2) k → Lowest a (suc k)
+lowest_even a k e h = record { there = bits_next a k ∙ h.there; below = below }
   where
     below : (j : ℕ) → j < suc k → bits_of a j ≡ false
     below zero l = bits_first a ∙ ap (λ x. eqb x 1) e
     below (suc j) l = bits_next a j ∙ h.below j (omega arith)
 
 -- As many zeros as a word ends with stand below its lowest one.
-pub lowest_one : (w a : ℕ) → 0 < a → a < 2 ^ w → Lowest a w (count_trailing_zeros w a)
+pub lowest_one : (w a : ℕ) → 0 < a → a < 2 ^ w → Lowest a (count_trailing_zeros w a)
 unfolding count_trailing_zeros
 lowest_one zero a p l = absurd (omega arith)
 lowest_one (suc w) a p l = go (λ q. lowest_one w (a / 2) q (omega (arith, twice w))) (a % 2) refl
   where
-    go : (0 < a / 2 → Lowest (a / 2) w (count_trailing_zeros w (a / 2))) → (d : ℕ) → a % 2 ≡ d → Lowest a (suc w) (under (a % 2) (count_trailing_zeros w (a / 2)))
+    go : (0 < a / 2 → Lowest (a / 2) (count_trailing_zeros w (a / 2))) → (d : ℕ) → a % 2 ≡ d → Lowest a (under (a % 2) (count_trailing_zeros w (a / 2)))
     go rest zero e =
-        subst (λ x. Lowest a (suc w) (under x (count_trailing_zeros w (a / 2)))) (sym e)
-        (lowest_even a w (count_trailing_zeros w (a / 2)) e (rest (omega (arith, e))))
+        subst (λ x. Lowest a (under x (count_trailing_zeros w (a / 2)))) (sym e)
+        (lowest_even a (count_trailing_zeros w (a / 2)) e (rest (omega (arith, e))))
     go rest (suc d) e =
-        subst (λ x. Lowest a (suc w) (under x (count_trailing_zeros w (a / 2)))) (sym e)
-        (record { there = bits_first a ∙ eq-eqb (a % 2) 1 (omega (arith, e, small a)); below = λ j q. absurd (omega arith); inside = omega arith })
+        subst (λ x. Lowest a (under x (count_trailing_zeros w (a / 2)))) (sym e)
+        (record { there = bits_first a ∙ eq-eqb (a % 2) 1 (omega (arith, e, small a)); below = λ j q. absurd (omega arith) })
 
 -- The highest one of a word is at k.
 pub record Highest (a k : ℕ) : Type 0 where

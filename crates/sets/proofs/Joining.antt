@@ -1,16 +1,12 @@
 -- What it is for one number to join a set, or to leave it.
-use Rattle.std.proofs.Common.{◌≡◌, ℕ, ◌<◌, ◌≤◌, Bool, true, false, not, ◌&&◌, ◌||◌, eqb, ltb, sym, ap, ◌∙◌, ⊎_elim}
-use mathlib.Core.Bool.{and-true, or-true}
-use Rattle.std.proofs.lemmas.Bool.{cases_eq, ne_eqb, and_left, and_right, lt-ltb, le-ltb}
-use Rattle.sets.specs.Members.{Members, Nobody, Same, Joined, Parted}
+use Rattle.std.proofs.Common.{◌≡◌, ℕ, ◌<◌, Bool, false, not, ◌&&◌, ◌||◌, eqb, ltb, sym, ap, ◌∙◌, ⊎_elim}
+use mathlib.Core.Bool.{and-true}
+use Rattle.std.proofs.lemmas.Bool.{cases_eq, ne_eqb, and_right, lt-ltb}
+use Rattle.sets.specs.Members.{Members, Joined, Parted}
 
 -- A test that fails adds nothing to another.
 pub or_off : (a b : Bool) → a ≡ false → (a || b) ≡ b
 or_off a b e = rw e
-
--- A set with the members of one that has none has none.
-pub same_nobody : (s t : Members) → Nobody s → Same t s → Nobody t
-same_nobody s t none same j = same j ∙ none j
 
 -- Below the limit the limit says nothing.
 pub below_limit : (limit n j : ℕ) → n < limit → (eqb j n && ltb n limit) ≡ eqb j n
@@ -19,18 +15,6 @@ below_limit limit n j l = ap (λ b. eqb j n && b) (lt-ltb n limit l) ∙ and-tru
 -- A number below the limit joins.
 pub joined_below : (limit n : ℕ) (s t : Members) → n < limit → ((j : ℕ) → t j ≡ (eqb j n || s j)) → Joined limit s n t
 joined_below limit n s t l h j = h j ∙ ap (λ b. b || s j) (sym (below_limit limit n j l))
-
--- A number from the limit on leaves the set as it is.
-pub joined_above : (limit n : ℕ) (s : Members) → limit ≤ n → Joined limit s n s
-joined_above limit n s g j = sym (or_off (eqb j n && ltb n limit) (s j) (and_right (eqb j n) (ltb n limit) (le-ltb n limit g)))
-
--- A member that joins again leaves the set as it is.
-pub joined_again : (limit n : ℕ) (s : Members) → s n ≡ true → Joined limit s n s
-joined_again limit n s held j =
-    ⊎_elim
-    (λ e. let here : s j ≡ true = ap s e ∙ held in here ∙ sym (ap (λ b. (eqb j n && ltb n limit) || b) here ∙ or-true (eqb j n && ltb n limit)))
-    (λ ne. sym (or_off (eqb j n && ltb n limit) (s j) (and_left (eqb j n) (ltb n limit) (ne_eqb j n ne))))
-    (cases_eq j n)
 
 -- A number that is no member leaves the set as it is.
 pub parted_absent : (n : ℕ) (s : Members) → s n ≡ false → Parted s n s

@@ -5,4 +5,4 @@ pub mod Lists
 pub mod Canonical
 mod Digits
 mod Words
-mod Eight
+mod Parts

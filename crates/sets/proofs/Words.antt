@@ -1,14 +1,15 @@
 -- What the operations on a word of w bits do to its ones.
-use Rattle.std.proofs.Common.{◌≡◌, ℕ, ◌-◌, ◌*◌, ◌/◌, ◌%◌, ◌^◌, ◌<◌, ◌≤◌, Bool, true, false, not, ◌&&◌, ◌||◌, eqb, Decides, MatchBool, sym, refl, ap, ◌∙◌, subst, ⊎_elim, arith}
+use Rattle.std.proofs.Common.{◌≡◌, ℕ, ◌-◌, ◌*◌, ◌/◌, ◌%◌, ◌^◌, ◌<◌, ◌≤◌, Bool, true, false, not, ◌&&◌, ◌||◌, eqb, Decides, MatchBool, Some, None, Option, IfSome, IfNone, sym, refl, ap, ◌∙◌, ⊎_elim, pow-suc, arith}
 use mathlib.Core.Bool.{or_comm, and_comm}
 use lib.Bits.{bit_and, bit_or}
-use lib.Count.{count_leading_zeros, count_trailing_zeros, leading_top}
+use lib.Count.{count_trailing_zeros}
+use Rattle.std.specs.Bool.{then_some}
 use Rattle.std.proofs.lemmas.Nat.{one_shl, and_mask, or_lt, pow_below}
 use Rattle.std.proofs.lemmas.Bool.{both_ways, cases_lt, eq-eqb, eqb-true, eqb-false, or_left}
 use Rattle.std.proofs.lemmas.Bool.Decides.{same_from_decides, Decides-below_and}
-use Rattle.sets.specs.Members.{Nobody, Same, Within, inside}
+use Rattle.sets.specs.Members.{Nobody, Same, Within, inside, Least, Greatest}
 use Rattle.sets.specs.Bits.{bits_of}
-use Rattle.sets.proofs.Digits.{bits_and, bits_or, bits_not, bits_one, zero_none, bits_above, bits_same, lowest_one, Highest, highest_one}
+use Rattle.sets.proofs.Digits.{bits_and, bits_or, bits_not, bits_one, zero_none, bits_above, bits_same, lowest_one, highest_one}
 
 -- `a | 1 << k` has a one at k as well.
 pub insert_bits : (w a k : ℕ) → k < w → (j : ℕ) → bits_of (bit_or a ((1 * 2 ^ k) % 2 ^ w)) j ≡ (eqb j k || bits_of a j)
@@ -69,9 +70,15 @@ within_test w a b l m =
 pub same_decides : (w a b : ℕ) → a < 2 ^ w → b < 2 ^ w → Decides (eqb a b) (Same (bits_of a) (bits_of b))
 same_decides w a b l m = ((λ e n. ap (λ x. bits_of x n) (eqb-true a b e)), λ h. eq-eqb a b (bits_same w a b l m h))
 
--- `w - 1 - a.leading_zeros()` is the place of the highest one.
-pub leading_highest : (w a : ℕ) → 0 < a → a < 2 ^ w → Highest a (w - 1 - count_leading_zeros w a)
-leading_highest w a p l =
-    let t = leading_top w a p l in
-    let e : w - 1 - count_leading_zeros w a ≡ t.0 = omega (arith, t.1) in
-    subst (λ k. Highest a k) (sym e) (highest_one a t.0 t.2 t.3)
+-- `a.trailing_zeros()` is the place of the lowest one, where `a` has any.
+pub trailing_least : (w a : ℕ) → a < 2 ^ w → (b : Bool) → MatchBool b (Nobody (bits_of a)) ((k : ℕ) × bits_of a k ≡ true) → Least (bits_of a) (then_some (not b) (count_trailing_zeros w a))
+trailing_least w a l true none = none
+trailing_least w a l false some =
+    let ne : a ≡ 0 → ⊥ = λ z. both_ways _ (zero_none a z some.0) some.1 in
+    let low = lowest_one w a (omega (arith, ne)) l in
+    (low.there, low.below)
+
+-- `a.checked_ilog2()` is the place of the highest one.
+pub log_greatest : (a : ℕ) (o : Option ℕ) → IfNone o (a ≡ 0) → IfSome o (λ k. 2 ^ k ≤ a) → IfSome o (λ k. a < 2 * 2 ^ k) → Greatest (bits_of a) o
+log_greatest a None z l m = zero_none a z
+log_greatest a (Some k) z l m = let high = highest_one a k l (omega (arith, pow-suc 2 k)) in (high.there, high.above)

@@ -2,5 +2,5 @@
 pub mod Members
 pub mod Bits
 pub mod Small
-pub mod Eight
+pub mod Parts
 pub mod Wide

@@ -4,7 +4,7 @@ ghost use Rattle.sets.specs.Members.{Nobody, Same, Joined, Parted, Within, insid
 ghost use Rattle.sets.specs.Small.{holds};
 
 /// A set of numbers below 32. Sets with the same members are equal values.
-#[derive(Clone, Copy)]
+#[derive(Clone, Copy, PartialEq, Eq, Debug)]
 pub struct Set32 {
     bits: u32,
 }
@@ -79,7 +79,7 @@ impl Set32 {
         ensures members { Decides result (Same (holds self) (holds other)) }
         ensures value { Decides result (self ≡ other) }
     {
-        self.bits == other.bits
+        self == other
     }
 
     /// Whether there is no member.
@@ -93,20 +93,14 @@ impl Set32 {
     pub fn lowest(self) -> Option<u32>
         ensures { Least (holds self) result }
     {
-        if self.bits == 0 {
-            return None;
-        }
-        Some(self.bits.trailing_zeros())
+        (!self.is_empty()).then_some(self.bits.trailing_zeros())
     }
 
     /// The greatest member, absent exactly without one.
     pub fn highest(self) -> Option<u32>
         ensures { Greatest (holds self) result }
     {
-        if self.bits == 0 {
-            return None;
-        }
-        Some(31 - self.bits.leading_zeros())
+        self.bits.checked_ilog2()
     }
 
     /// How many members there are.

@@ -1,82 +1,82 @@
-// Sets of numbers below 512, one bit of eight words for each.
-ghost use Rattle.std.specs.Prelude.{◌≡◌, ℕ, ◌<◌, true, set, MatchBool, slice_set};
+// Sets of numbers below 512, in sixteen parts of 32 numbers each.
+ghost use Rattle.std.specs.Prelude.{◌≡◌, ℕ, ◌<◌, true, MatchBool, slice_set};
 ghost use Rattle.sets.specs.Members.{Nobody, Joined, Parted, Least};
-ghost use Rattle.sets.specs.Eight.{in_words, Marks, Fit};
+ghost use Rattle.sets.specs.Parts.{in_parts, Marks, Fit};
 
-/// A set of numbers below 512. The byte `used` marks the words that are not 0, so that the lowest
-/// member is found without a walk over the words.
+use crate::small::Set32;
+
+/// A set of numbers below 512: part `i` has the numbers from `32 * i` on, counted from there. The set
+/// `used` marks the parts with a member, so that the lowest member is found without a walk over the parts.
 #[derive(Drop)]
 pub struct Set512 {
-    words: [u64; 8],
-    used: u8,
-    ghost marks: { Marks used words },
-    ghost fits: { Fit words },
+    parts: [Set32; 16],
+    used: Set32,
+    ghost marks: { Marks used parts },
+    ghost fits: { Fit parts },
 }
 
 impl Set512 {
     /// The set without a member.
     pub fn none() -> Set512
-        ensures { Nobody (in_words result.words) }
+        ensures { Nobody (in_parts result.parts) }
     {
         Set512 {
-            words: [0; 8],
-            used: 0,
+            parts: [Set32::none(); 16],
+            used: Set32::none(),
         }
     }
 
-    // Every change of the set goes through here, so that a word and its mark change together.
-    fn write(&mut self, i: usize, word: u64)
-        requires { i < 8 }
-        ensures { self.new.words ≡ slice_set self.old.words i word }
+    // Every change of the set goes through here, so that a part and its mark change together.
+    fn write(&mut self, i: usize, part: Set32)
+        requires { i < 16 }
+        ensures { self.new.parts ≡ slice_set self.old.parts i part }
     {
-        self.words[i] = word;
-        if word == 0 {
-            self.used &= !(1 << i);
+        self.parts[i] = part;
+        self.used = if part.is_empty() {
+            self.used.remove(i as u32)
         } else {
-            self.used |= 1 << i;
-        }
+            self.used.insert(i as u32)
+        };
     }
 
     /// Whether `n` is a member; no number from 512 on is.
     pub fn has(&self, n: usize) -> bool
-        ensures { result ≡ in_words self.now.words n }
+        ensures { result ≡ in_parts self.now.parts n }
     {
-        n < 512 && (self.words[n / 64] >> (n % 64)) & 1 == 1
+        n < 512 && self.parts[n / 32].has((n % 32) as u32)
     }
 
     /// Adds `n`; from 512 on it changes nothing.
     pub fn insert(&mut self, n: usize)
-        ensures { Joined 512 (in_words self.old.words) n (in_words self.new.words) }
+        ensures { Joined 512 (in_parts self.old.parts) n (in_parts self.new.parts) }
     {
         if n < 512 {
-            self.write(n / 64, self.words[n / 64] | 1 << (n % 64));
+            self.write(n / 32, self.parts[n / 32].insert((n % 32) as u32));
         }
     }
 
     /// Removes `n`; from 512 on it changes nothing, as there is no such member.
     pub fn remove(&mut self, n: usize)
-        ensures { Parted (in_words self.old.words) n (in_words self.new.words) }
+        ensures { Parted (in_parts self.old.parts) n (in_parts self.new.parts) }
     {
         if n < 512 {
-            self.write(n / 64, self.words[n / 64] & !(1 << (n % 64)));
+            self.write(n / 32, self.parts[n / 32].remove((n % 32) as u32));
         }
     }
 
     /// Whether there is no member.
     pub fn is_empty(&self) -> bool
-        ensures { MatchBool result (Nobody (in_words self.now.words)) ((k : ℕ) × in_words self.now.words k ≡ true) }
+        ensures { MatchBool result (Nobody (in_parts self.now.parts)) ((k : ℕ) × in_parts self.now.parts k ≡ true) }
     {
-        self.used == 0
+        self.used.is_empty()
     }
 
     /// The least member, absent exactly without one.
     pub fn lowest(&self) -> Option<usize>
-        ensures { Least (in_words self.now.words) result }
+        ensures { Least (in_parts self.now.parts) result }
     {
-        if self.used == 0 {
-            return None;
-        }
-        let i = self.used.trailing_zeros() as usize;
-        Some(64 * i + self.words[i].trailing_zeros() as usize)
+        let i = self.used.lowest()? as usize;
+        let place = self.parts[i].lowest()? as usize;
+        Some(32 * i + place)
     }
 }

@@ -1,7 +1,6 @@
 -- Each number that is taken lowers the count of those that wait by one.
 use Rattle.std.proofs.Common.{◌≡◌, ◌+◌, arith}
 use Rattle.sets.specs.Members.{count}
-use Rattle.sets.proofs.Joining.{same_nobody}
 use Rattle.sets.proofs.Counts.{count_le, count_none, count_parted}
 use Rattle.agenda.proofs.drain.drain.Given as given
 use Rattle.agenda.proofs.drain.drain.Goals as goal
@@ -24,10 +23,5 @@ loop-taken-smaller g c = omega (arith, fell g c)
 pub loop-taken-preserved : goal.loop-taken-preserved
 loop-taken-preserved g c = omega (arith, fell g c, c.loop-taken.invariant)
 
-pub returns : goal.returns
-returns g c =
-    let left = c.in_default.ensures in
-    record {
-      none = same_nobody (g.A.Agenda.waits c.loop-taken.agenda) (g.A.Agenda.waits c.take.new.self) left.0 left.1;
-      taken = omega (arith, count_none (g.A.Agenda.waits c.loop-taken.agenda) 512 left.0, c.loop-taken.invariant);
-    }
+pub returns-clause-taken : goal.returns-clause-taken
+returns-clause-taken g c = omega (arith, count_none (g.A.Agenda.waits c.loop-taken.agenda) 512 c.in_default.ensures.0, c.loop-taken.invariant)

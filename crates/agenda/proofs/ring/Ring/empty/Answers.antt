@@ -10,5 +10,5 @@ invariant_of-self c =
     let k = kept_none _ _ 0 c.none-self.ensures (order_none ring.items ring.head 0 refl) refl in
     record { agrees = k.agrees; once = k.once; counted = k.counted; inside = ring.inside }
 
-pub returns : goal.returns
-returns c = record { none = c.none-self.ensures; order = order_none _ _ 0 refl }
+pub returns-clause-order : goal.returns-clause-order
+returns-clause-order c = order_none _ _ 0 refl

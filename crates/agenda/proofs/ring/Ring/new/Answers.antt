@@ -9,5 +9,5 @@ invariant_of-result c =
     let k = kept_none _ _ 0 c.none.ensures (order_none (replicate 512 0) 0 0 refl) refl in
     record { agrees = k.agrees; once = k.once; counted = k.counted; inside = search rules }
 
-pub returns : goal.returns
-returns c = record { none = c.none.ensures; order = order_none (replicate 512 0) 0 0 refl }
+pub returns-clause-order : goal.returns-clause-order
+returns-clause-order c = order_none (replicate 512 0) 0 0 refl

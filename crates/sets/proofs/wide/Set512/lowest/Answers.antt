@@ -1,15 +1,18 @@
--- The least member is the lowest one of the lowest marked word.
-use Rattle.std.proofs.Common.{get_or, rules}
-use lib.Count.{count_trailing_zeros}
-use Rattle.sets.proofs.Eight.{first, first-least, none_held}
+-- The least member is the lowest one of the first marked part.
+use Rattle.std.proofs.Common.{true, rules}
+use Rattle.sets.specs.Members.{Nobody}
+use Rattle.sets.specs.Parts.{in_parts}
+use Rattle.sets.proofs.Parts.{marked_there, marks_tell, first-least}
 use Rattle.sets.proofs.wide.Set512.lowest.Goals as goal
 
-pub returns-then-self-eq0 : goal.returns-then-self-eq0
-returns-then-self-eq0 c = let s = c.args.self.now in none_held s.used s.words s.marks c.if-self-eq0.true
+pub returns-in_err-i : goal.returns-in_err-i
+returns-in_err-i c =
+    let s = c.args.self.now in
+    let none : Nobody (in_parts s.parts) = marks_tell s.used s.parts (search rules) s.marks s.fits true (search rules) in
+    search rules
+
+pub bounds-self-i : goal.bounds-self-i
+bounds-self-i c = let s = c.args.self.now in marked_there s.used s.parts (search rules) s.marks s.fits _ (search rules)
 
 pub returns : goal.returns
-returns c =
-    let s = c.args.self.now in
-    let i = count_trailing_zeros 8 s.used in
-    let n = count_trailing_zeros 64 (get_or s.words i 0) in
-    first-least s.used s.words (search rules) s.marks i n (first s.used s.words s.marks s.fits (search rules) c.if-self-eq0.false)
+returns c = let s = c.args.self.now in first-least s.used s.parts (search rules) s.marks s.fits _ _ (search rules) (search rules)
