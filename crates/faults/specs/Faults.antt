@@ -1,5 +1,5 @@
--- The number and the layer of each problem.
-use Rattle.std.specs.Prelude.{ℕ}
+-- The number and the layer of each problem, and the word for each layer.
+use Rattle.std.specs.Prelude.{ℕ, List, codes}
 use Rattle.faults.specs.declared.Layer.{Layer}
 use Rattle.faults.specs.declared.Layer.TheVariants.{Reader, Grammar, Sheet}
 use Rattle.faults.specs.declared.Problem.{Problem}
@@ -30,3 +30,9 @@ layer_of problem.Unknown = Sheet
 layer_of problem.Twice = Sheet
 layer_of problem.Full = Sheet
 layer_of problem.Range = Sheet
+
+-- the word for a layer
+abbrev pub layer_word : Layer → List ℕ
+layer_word Reader = codes "reader"
+layer_word Grammar = codes "grammar"
+layer_word Sheet = codes "sheet"

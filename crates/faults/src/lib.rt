@@ -1,32 +1,34 @@
 // What is wrong with a sheet, and where.
 #![tactic(auto)]
 
-ghost use Rattle.std.specs.Prelude.{◌≡◌};
-ghost use Rattle.faults.specs.Faults.{number_of, layer_of};
+ghost use Rattle.std.specs.Prelude.{◌≡◌, Some};
+ghost use Rattle.faults.specs.Faults.{number_of, layer_of, layer_word};
+
+use std::fmt;
 
 /// What is wrong with a line, or with a text as a whole.
 #[derive(Clone, Copy, Debug, PartialEq, Eq)]
 pub enum Problem {
     /// The text has more than 32,768 bytes.
-    LongText,
+    LongText = 10,
     /// A byte that no word has there.
-    Byte,
+    Byte = 11,
     /// A number above 4,294,967,295.
-    LargeNumber,
+    LargeNumber = 12,
     /// A name of more than 16 bytes.
-    LongName,
+    LongName = 13,
     /// A word that no line can have there, or a line that is too short.
-    Word,
+    Word = 14,
     /// Parentheses that nest more than 16 deep.
-    Nesting,
+    Nesting = 15,
     /// A name that is unknown so far, or of the other sort.
-    Unknown,
+    Unknown = 16,
     /// A name that was declared before.
-    Twice,
+    Twice = 17,
     /// More cells, premises or constraints than a plan may have.
-    Full,
+    Full = 18,
     /// A number outside its range.
-    Range,
+    Range = 19,
 }
 
 /// Which layer of reading found a problem: the faults of a line are looked for layer by layer.
@@ -48,6 +50,7 @@ pub struct Found {
 #[derive(Clone, Copy, Debug, PartialEq, Eq)]
 pub struct Fault {
     pub problem: Problem,
+    // A number, as callers may hold any: an enum of the two texts would be a narrower type, and so ask more of them.
     pub text: usize,
     pub line: usize,
     pub column: usize,
@@ -58,18 +61,7 @@ impl Problem {
     pub fn number(self) -> u8
         ensures { result ≡ number_of self }
     {
-        match self {
-            Problem::LongText => 10,
-            Problem::Byte => 11,
-            Problem::LargeNumber => 12,
-            Problem::LongName => 13,
-            Problem::Word => 14,
-            Problem::Nesting => 15,
-            Problem::Unknown => 16,
-            Problem::Twice => 17,
-            Problem::Full => 18,
-            Problem::Range => 19,
-        }
+        self as u8
     }
 
     /// The layer that finds the problem.
@@ -81,5 +73,17 @@ impl Problem {
             Problem::Word | Problem::Nesting => Layer::Grammar,
             _ => Layer::Sheet,
         }
+    }
+}
+
+impl fmt::Display for Layer {
+    ghost output = { λ layer. Some (layer_word layer) };
+
+    fn fmt<W: fmt::Write>(&self, f: &mut fmt::Formatter<W>) -> fmt::Result {
+        f.write_str(match *self {
+            Layer::Reader => "reader",
+            Layer::Grammar => "grammar",
+            Layer::Sheet => "sheet",
+        })
     }
 }

@@ -15,11 +15,11 @@ pub record Items : Type 0 where
 abbrev pub nothing : Items
 nothing = record { cells = []; premises = []; constraints = [] }
 
-abbrev pub planned : Plan → Items
-planned p = record { cells = vec_items p.cells; premises = vec_items p.premises; constraints = vec_items p.constraints }
-
 abbrev pub drafted : Draft → Items
 drafted d = record { cells = vec_items d.cells; premises = vec_items d.premises; constraints = vec_items d.constraints }
+
+abbrev pub planned : Plan → Items
+planned p = drafted p.draft
 
 -- at most 256 cells, 32 premises and 512 constraints
 abbrev pub few : Items → Bool

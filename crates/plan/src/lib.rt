@@ -7,3 +7,4 @@ pub mod names;
 pub mod place;
 pub mod plan;
 pub mod plans;
+pub mod texts;

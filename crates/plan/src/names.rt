@@ -1,16 +1,20 @@
 // Names of cells and premises, as parts of the texts that declared them.
-ghost use Rattle.std.specs.Prelude.{◌≡◌, [], ◌∷◌};
+ghost use Rattle.std.specs.Prelude.{◌≡◌, Some, Option};
 ghost use Rattle.std.specs.List.{slice_get};
-ghost use Rattle.plan.specs.Names.{number_of, part_of, name_at, cell_name, premise_name, bytes_of, answered, spells, cell_of, premise_of};
+ghost use Rattle.std.specs.Option.{option_copied};
+ghost use Rattle.plan.specs.Items.{planned};
+ghost use Rattle.plan.specs.Names.{number_of, texts_of, name_at, name_in, cell_name, premise_name, answered, spells, named_by};
+ghost use Rattle.plan.specs.declared.place.Place.{Place};
 
 use crate::place::Place;
 use crate::plan::Plan;
+use crate::texts::Texts;
 
 /// Why a name is refused.
 #[derive(Clone, Copy, Debug, PartialEq, Eq)]
 pub enum Refusal {
     /// There is no such cell, or no such premise.
-    NoSuch,
+    NoSuch = 5,
 }
 
 impl Refusal {
@@ -18,113 +22,79 @@ impl Refusal {
     pub fn number(self) -> u8
         ensures { result ≡ number_of self }
     {
-        match self {
-            Refusal::NoSuch => 5,
-        }
+        self as u8
     }
 }
 
-fn text_of<'a>(text: usize, chip: &'a [u8], project: &'a [u8]) -> Option<&'a [u8]>
-    ensures { bytes_of result ≡ slice_get (chip.now ∷ project.now ∷ []) text }
-{
-    if text == 0 {
-        Some(chip)
-    } else if text == 1 {
-        Some(project)
-    } else {
-        None
+/// What a text declares: a cell, which has a place unless it is a helper, or a premise.
+pub trait Declared: Copy {
+    ghost place: { Self → Option Place };
+
+    /// Where its name stands, absent where it has none.
+    fn place(self) -> Option<Place>
+        ensures { result ≡ place self };
+}
+
+impl Declared for Option<Place> {
+    ghost place = { λ cell. cell };
+
+    fn place(self) -> Option<Place> {
+        self
     }
 }
 
-/// The bytes at a place, absent where its text is too short or is neither of the two.
-pub fn part<'a>(place: Place, chip: &'a [u8], project: &'a [u8]) -> Option<&'a [u8]>
-    ensures { bytes_of result ≡ part_of (chip.now ∷ project.now ∷ []) place }
-{
-    match text_of(place.text, chip, project) {
-        None => None,
-        Some(text) => {
-            let start = place.start;
-            if start <= text.len() && place.len <= text.len() - start {
-                let end = start + place.len;
-                Some(&text[start..end])
-            } else {
-                None
-            }
-        }
+impl Declared for Place {
+    ghost place = { λ premise. Some premise };
+
+    fn place(self) -> Option<Place> {
+        Some(self)
     }
 }
 
-fn name_at<'a>(place: Option<Place>, chip: &'a [u8], project: &'a [u8]) -> Option<&'a [u8]>
-    ensures { bytes_of result ≡ name_at (chip.now ∷ project.now ∷ []) place }
-{
-    match place {
-        None => None,
-        Some(p) => part(p, chip, project),
+impl<'a> Texts<'a> {
+    /// The name of what was declared: absent for a helper, or where the text is too short or is neither of the two.
+    pub fn name<D: Declared>(self, declared: D) -> Option<&'a [u8]>
+        ensures { option_copied result ≡ name_at (texts_of self.entry) (D.place declared) }
+    {
+        self.part(declared.place()?)
     }
 }
 
-fn is_spelled(found: Option<&[u8]>, name: &[u8]) -> bool
-    ensures { result ≡ spells (bytes_of found.entry) name.now }
+/// The number of what was declared under a name, absent where there is none.
+pub fn find<D: Declared>(all: &[D], texts: Texts<'_>, name: &[u8]) -> Option<usize>
+    ensures { result ≡ named_by D.place (texts_of texts.entry) all.now name.now }
 {
-    match found {
-        None => false,
-        Some(bytes) => bytes == name,
-    }
+    all.iter().position(|d| texts.name(*d) == Some(name))
 }
 
-/// The cell that was declared under a name, absent where there is none.
-pub fn find_cell(cells: &[Option<Place>], chip: &[u8], project: &[u8], name: &[u8]) -> Option<usize>
-    ensures { result ≡ cell_of (chip.now ∷ project.now ∷ []) cells.now name.now }
+fn name_in<'a, D: Declared>(
+    all: &[D],
+    i: usize,
+    texts: Texts<'a>,
+) -> Result<Option<&'a [u8]>, Refusal>
+    ensures { answered result ≡ name_in D.place (texts_of texts.entry) (slice_get all.now i) }
 {
-    for (i, place) in cells.iter().enumerate() {
-        if is_spelled(name_at(*place, chip, project), name) {
-            return Some(i);
-        }
-    }
-    None
-}
-
-/// The premise that was declared under a name, absent where there is none.
-pub fn find_premise(premises: &[Place], chip: &[u8], project: &[u8], name: &[u8]) -> Option<usize>
-    ensures { result ≡ premise_of (chip.now ∷ project.now ∷ []) premises.now name.now }
-{
-    for (i, place) in premises.iter().enumerate() {
-        if is_spelled(part(*place, chip, project), name) {
-            return Some(i);
-        }
-    }
-    None
+    let declared = all.get(i).ok_or(Refusal::NoSuch)?;
+    Ok(texts.name(*declared))
 }
 
 impl Plan {
     /// The name of a cell, as the part of the text that declared it: absent for a helper, or where the text handed in
     /// is too short; refused where there is no such cell.
-    pub fn name<'a>(
-        &self,
-        cell: usize,
-        chip: &'a [u8],
-        project: &'a [u8],
-    ) -> Result<Option<&'a [u8]>, Refusal>
-        ensures { answered result ≡ cell_name (chip.now ∷ project.now ∷ []) (slice_get self.now.cells.items cell) }
+    pub fn name<'a>(&self, cell: usize, texts: Texts<'a>) -> Result<Option<&'a [u8]>, Refusal>
+        ensures { answered result ≡ cell_name (texts_of texts.entry) (slice_get (planned self.now).cells cell) }
     {
-        if cell >= self.cells.len() {
-            return Err(Refusal::NoSuch);
-        }
-        Ok(name_at(self.cells[cell], chip, project))
+        name_in(self.cells(), cell, texts)
     }
 
     /// The name of a premise, likewise.
     pub fn premise_name<'a>(
         &self,
         premise: usize,
-        chip: &'a [u8],
-        project: &'a [u8],
+        texts: Texts<'a>,
     ) -> Result<Option<&'a [u8]>, Refusal>
-        ensures { answered result ≡ premise_name (chip.now ∷ project.now ∷ []) (slice_get self.now.premises.items premise) }
+        ensures { answered result ≡ premise_name (texts_of texts.entry) (slice_get (planned self.now).premises premise) }
     {
-        if premise >= self.premises.len() {
-            return Err(Refusal::NoSuch);
-        }
-        Ok(part(self.premises[premise], chip, project))
+        name_in(self.premises(), premise, texts)
     }
 }
