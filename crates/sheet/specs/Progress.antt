@@ -1,12 +1,11 @@
 -- How far the reading of a line has come: the texts, the draft, and the first problem found in the line.
-use Rattle.std.specs.Prelude.{◌≡◌, ℕ, [], ◌∷◌, Ok, Err, Option, Result}
+use Rattle.std.specs.Prelude.{◌≡◌, ℕ, Ok, Err, Option, Result}
 use Rattle.faults.specs.declared.Found.{Found}
 use Rattle.plan.specs.Items.{Items, drafted}
-use Rattle.plan.specs.Names.{Texts}
+use Rattle.plan.specs.Names.{Texts, texts_of}
 use Rattle.meaning.specs.Making.{Grown}
 use Rattle.meaning.specs.Checks.{first}
 use Rattle.sheet.specs.declared.reading.Reading.{Reading}
-use Rattle.sheet.specs.declared.reading.Texts.{Texts as Given}
 use Rattle.sheet.specs.declared.reading.Stop.{Stop}
 use Rattle.sheet.specs.declared.reading.Stop.TheVariants.{Memory}
 
@@ -14,10 +13,6 @@ pub record Progress : Type 0 where
   pub texts : Texts
   pub items : Items
   pub found : Option Found
-
--- the chip text, and then the project text
-abbrev pub texts_of : Given → Texts
-texts_of t = t.chip.now ∷ t.project.now ∷ []
 
 abbrev pub progress : Reading → Progress
 progress r = record { texts = texts_of r.texts; items = drafted r.draft; found = r.found }

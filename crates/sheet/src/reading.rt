@@ -12,16 +12,10 @@ use crate::next::Name;
 use faults::{Found, Problem};
 use plan::constraint::{Constraint, Form};
 use plan::draft::Draft;
-use plan::names::{find_cell, find_premise};
+use plan::names::find;
+use plan::texts::Texts;
 use statements::statement::Statement;
 use std::alloc::AllocFailed;
-
-/// The texts that names are parts of.
-#[derive(Clone, Copy)]
-pub struct Texts<'a> {
-    pub chip: &'a [u8],
-    pub project: &'a [u8],
-}
 
 /// The texts, the draft, and the first problem with the names and numbers of the line.
 #[derive(Drop)]
@@ -62,24 +56,14 @@ impl<'a> Reading<'a> {
     pub(crate) fn cell(&self, name: &[u8]) -> Option<usize>
         ensures { let p = progress self.now in result ≡ cell_of p.texts p.items.cells name.now }
     {
-        find_cell(
-            self.draft.cells.as_slice(),
-            self.texts.chip,
-            self.texts.project,
-            name,
-        )
+        find(self.draft.cells.as_slice(), self.texts, name)
     }
 
     // The premise of a name.
     pub(crate) fn premise(&self, name: &[u8]) -> Option<usize>
         ensures { let p = progress self.now in result ≡ premise_of p.texts p.items.premises name.now }
     {
-        find_premise(
-            self.draft.premises.as_slice(),
-            self.texts.chip,
-            self.texts.project,
-            name,
-        )
+        find(self.draft.premises.as_slice(), self.texts, name)
     }
 
     // What was found under a name at a column; a name that is not known is noted.

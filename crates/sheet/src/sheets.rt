@@ -2,15 +2,17 @@
 ghost use Rattle.std.specs.Prelude.{◌≡◌, ◌+◌, ◌≤◌, ◌==◌, ◌∷◌, length, position, None};
 ghost use Rattle.sheet.specs.declared.sheets.ReadError.TheVariants.{Fault as Failed};
 ghost use Rattle.plan.specs.Items.{planned};
-ghost use Rattle.sheet.specs.Progress.{texts_of, progress};
+ghost use Rattle.plan.specs.Names.{texts_of};
+ghost use Rattle.sheet.specs.Progress.{progress};
 ghost use Rattle.sheet.specs.Sheets.{slip_problem, lines_of, too_long, sheets_read, trees_of};
 ghost use Rattle.sheet.specs.Answers.{unworded, stopped, fault_at, Ended, LineReads, left, lines_in, TextReads, BothRead, Reads, Solved};
 
 use crate::line::Start;
-use crate::reading::{Reading, Stop, Texts};
+use crate::reading::{Reading, Stop};
 use faults::{Fault, Found, Problem};
 use plan::draft::Draft;
 use plan::plan::Plan;
+use plan::texts::Texts;
 use std::alloc::Global;
 use words::{Slip, words};
 

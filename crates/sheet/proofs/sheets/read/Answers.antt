@@ -2,7 +2,7 @@ use Rattle.std.proofs.Common.{◌≡◌, cond, Ok, sym, ap, ◌∙◌, subst}
 use Rattle.plan.specs.Items.{planned, drafted, nothing}
 use Rattle.meaning.specs.Solutions.{SameSolutions}
 use Rattle.meaning.proofs.Solving.{built_solves}
-use Rattle.sheet.specs.Progress.{texts_of}
+use Rattle.plan.specs.Names.{texts_of}
 use Rattle.sheet.specs.Sheets.{trees_of}
 use Rattle.sheet.proofs.Built.{sheets_built, sheets_fit}
 use Rattle.sheet.proofs.sheets.read.Goals as goal

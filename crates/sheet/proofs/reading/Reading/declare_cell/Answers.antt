@@ -1,7 +1,7 @@
 use Rattle.std.proofs.Common.{vec_items}
 use Rattle.std.proofs.lemmas.Result.{err_from_is_err_and}
 use Rattle.grammar.specs.Tree.{cell}
-use Rattle.sheet.specs.Progress.{texts_of}
+use Rattle.plan.specs.Names.{texts_of}
 use Rattle.sheet.proofs.Lines.{cell_declared}
 use Rattle.sheet.proofs.reading.Reading.declare_cell.Goals as goal
 

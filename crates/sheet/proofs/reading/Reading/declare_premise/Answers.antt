@@ -1,7 +1,7 @@
 use Rattle.std.proofs.Common.{vec_items}
 use Rattle.std.proofs.lemmas.Result.{err_from_is_err_and}
 use Rattle.grammar.specs.Tree.{premise}
-use Rattle.sheet.specs.Progress.{texts_of}
+use Rattle.plan.specs.Names.{texts_of}
 use Rattle.sheet.proofs.Lines.{premise_declared}
 use Rattle.sheet.proofs.reading.Reading.declare_premise.Goals as goal
 
