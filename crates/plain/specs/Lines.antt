@@ -2,9 +2,7 @@
 use Rattle.std.specs.Prelude.{ℕ, List, ◌++◌, length, Some, None, codes, decimal, Option}
 use Rattle.std.specs.Fmt.{signed_decimal}
 use Rattle.faults.specs.declared.Fault.{Fault}
-use Rattle.faults.specs.declared.Layer.{Layer}
-use Rattle.faults.specs.declared.Layer.TheVariants.{Reader, Grammar, Sheet}
-use Rattle.faults.specs.Faults.{number_of, layer_of}
+use Rattle.faults.specs.Faults.{number_of, layer_of, layer_word}
 use Rattle.plan.specs.Items.{Items}
 use Rattle.plan.specs.declared.constraint.Constraint.{Constraint}
 use Rattle.plan.specs.declared.constraint.Form.{Form}
@@ -32,12 +30,6 @@ form_words (Apart a d b e) = codes "apart " ++ (decimal a ++ (codes " " ++ (deci
 -- `constraint I OWNER ..`
 abbrev pub constraint_line : ℕ → Constraint → List ℕ
 constraint_line i k = codes "constraint " ++ (decimal i ++ (codes " " ++ (owner_word k.owner ++ (codes " " ++ form_words k.form))))
-
--- the word for a layer
-abbrev pub layer_word : Layer → List ℕ
-layer_word Reader = codes "reader"
-layer_word Grammar = codes "grammar"
-layer_word Sheet = codes "sheet"
 
 -- `fault NUMBER LAYER TEXT LINE COLUMN`
 abbrev pub fault_line : Fault → List ℕ

@@ -3,11 +3,13 @@
 
 ghost use Rattle.std.specs.Prelude.{◌≡◌, Some};
 ghost use Rattle.plan.specs.Items.{planned};
-ghost use Rattle.plain.specs.Lines.{owner_word, statement_words, form_words, constraint_line, layer_word, fault_line, counts_line};
+ghost use Rattle.plain.specs.Lines.{owner_word, statement_words, form_words, constraint_line, fault_line, counts_line};
 
-use faults::{Fault, Layer};
+use faults::Fault;
 use plan::constraint::{Constraint, Form};
+use plan::names::Declared;
 use plan::plan::Plan;
+use plan::texts::Texts;
 use statements::statement::Statement;
 use std::fmt;
 
@@ -15,8 +17,7 @@ use std::fmt;
 #[derive(Clone, Copy)]
 pub struct PlainPlan<'a> {
     pub plan: &'a Plan,
-    pub chip: &'a [u8],
-    pub project: &'a [u8],
+    pub texts: Texts<'a>,
 }
 
 /// How many cells, constraints and premises a plan has: its first line, without the end of the line.
@@ -49,13 +50,10 @@ struct PlainOwner(Option<usize>);
 
 impl fmt::Display for Name<'_> {
     fn fmt<W: fmt::Write>(&self, f: &mut fmt::Formatter<W>) -> fmt::Result {
-        match self.0 {
-            None => f.write_str("-"),
-            Some(bytes) => match std::str::from_utf8(bytes) {
-                Ok(text) => f.write_str(text),
-                Err(_) => f.write_str("?"),
-            },
-        }
+        f.write_str(match self.0 {
+            None => "-",
+            Some(bytes) => std::str::from_utf8(bytes).unwrap_or("?"),
+        })
     }
 }
 
@@ -123,41 +121,25 @@ impl fmt::Display for PlainCounts<'_> {
     }
 }
 
-// The lines of the cells, from 0 on.
-fn cells<W: fmt::Write>(shown: PlainPlan<'_>, f: &mut fmt::Formatter<W>) -> fmt::Result {
-    for i in 0..shown.plan.cell_count() {
-        let name = Name(
-            shown
-                .plan
-                .name(i, shown.chip, shown.project)
-                .unwrap_or(None),
-        );
-        writeln!(f, "cell {i} {name}")?;
-    }
-    Ok(())
-}
-
-// The lines of the premises, from 0 on.
-fn premises<W: fmt::Write>(shown: PlainPlan<'_>, f: &mut fmt::Formatter<W>) -> fmt::Result {
-    for i in 0..shown.plan.premise_count() {
-        let name = Name(
-            shown
-                .plan
-                .premise_name(i, shown.chip, shown.project)
-                .unwrap_or(None),
-        );
-        writeln!(f, "premise {i} {name}")?;
+// The lines of the cells, or of the premises: `word`, the number from 0 on, and the name.
+fn names<D: Declared, W: fmt::Write>(
+    word: &str,
+    all: &[D],
+    texts: Texts<'_>,
+    f: &mut fmt::Formatter<W>,
+) -> fmt::Result {
+    for (i, declared) in all.iter().enumerate() {
+        let name = Name(texts.name(*declared));
+        writeln!(f, "{word} {i} {name}")?;
     }
     Ok(())
 }
 
 // The lines of the constraints, from 0 on.
-fn constraints<W: fmt::Write>(plan: &Plan, f: &mut fmt::Formatter<W>) -> fmt::Result {
-    for i in 0..plan.constraint_count() {
-        if let Some(found) = plan.constraint(i) {
-            let line = PlainConstraint(i, found);
-            writeln!(f, "{line}")?;
-        }
+fn constraints<W: fmt::Write>(all: &[Constraint], f: &mut fmt::Formatter<W>) -> fmt::Result {
+    for (i, constraint) in all.iter().enumerate() {
+        let line = PlainConstraint(i, *constraint);
+        writeln!(f, "{line}")?;
     }
     Ok(())
 }
@@ -166,20 +148,9 @@ impl fmt::Display for PlainPlan<'_> {
     fn fmt<W: fmt::Write>(&self, f: &mut fmt::Formatter<W>) -> fmt::Result {
         let counts = PlainCounts(self.plan);
         writeln!(f, "{counts}")?;
-        cells(*self, f)?;
-        premises(*self, f)?;
-        constraints(self.plan, f)
-    }
-}
-
-// The word for a layer.
-fn layer_word(layer: Layer) -> &'static str
-    ensures { result.now ≡ layer_word layer }
-{
-    match layer {
-        Layer::Reader => "reader",
-        Layer::Grammar => "grammar",
-        Layer::Sheet => "sheet",
+        names("cell", self.plan.cells(), self.texts, f)?;
+        names("premise", self.plan.premises(), self.texts, f)?;
+        constraints(self.plan.constraints(), f)
     }
 }
 
@@ -188,7 +159,7 @@ impl fmt::Display for PlainFault {
 
     fn fmt<W: fmt::Write>(&self, f: &mut fmt::Formatter<W>) -> fmt::Result {
         let number = self.0.problem.number();
-        let layer = layer_word(self.0.problem.layer());
+        let layer = self.0.problem.layer();
         let text = self.0.text;
         let line = self.0.line;
         let column = self.0.column;

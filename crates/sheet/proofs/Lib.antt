@@ -1,11 +1,10 @@
 pub mod Same
-pub mod Symbols
 pub mod Steps
-pub mod Fixed
-pub mod Shapes
-pub mod Bounds
-pub mod Lines
-pub mod Ends
-pub mod Texts
 pub mod Standing
 pub mod Built
+pub mod Shapes
+pub mod Bounds
+pub mod Heads
+pub mod Lines
+pub mod Texts
+pub mod Ends

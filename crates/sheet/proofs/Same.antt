@@ -1,9 +1,10 @@
 -- Helpers have no name, so a name means the same after them.
 use Rattle.std.proofs.Common.{◌≡◌, ℕ, ◌+◌, Bool, false, cond, List, [], ◌∷◌, ◌++◌, Some, None, Option, refl, ap, ◌∙◌}
+use Rattle.std.specs.List.{position_from}
 use Rattle.faults.specs.declared.Found.{Found}
 use Rattle.plan.specs.declared.place.Place.{Place}
 use Rattle.plan.specs.Items.{Items}
-use Rattle.plan.specs.Names.{Texts, name_at, spells, first_from, cell_of}
+use Rattle.plan.specs.Names.{Texts, name_at, spells, cell_of}
 use Rattle.grammar.specs.Tree.{Expr, one, plus, Term, named, counted, group}
 use Rattle.meaning.specs.Making.{makes, makes_term}
 use Rattle.meaning.specs.Checks.{first, wanted, expr_fault, term_fault}
@@ -16,7 +17,7 @@ pub first_none : (a : Option Found) → first a None ≡ a
 first_none None = refl
 first_none (Some f) = refl
 
-first_past : (i : ℕ) (f : Option Place → Bool) (xs : List (Option Place)) → f None ≡ false → first_from i f (xs ++ None ∷ []) ≡ first_from i f xs
+first_past : (i : ℕ) (f : Option Place → Bool) (xs : List (Option Place)) → f None ≡ false → position_from f i (xs ++ None ∷ []) ≡ position_from f i xs
 first_past i f [] h = ap (λ b. cond b (Some i) None) h
 first_past i f (x ∷ xs) h = ap (cond (f x) (Some i)) (first_past (i + 1) f xs h)
 

@@ -1,6 +1,6 @@
 -- Where the lines of a text stand in it, and that the names and numbers of a line stand as its words do.
 use Rattle.std.proofs.Common.{◌≡◌, ℕ, suc, ◌+◌, ◌-◌, ◌≤◌, min, Bool, true, false, cond, eqb, leb, List, [], ◌∷◌, ◌++◌, length, take, drop, Some, None, Ok, sym, refl, ap, ◌∙◌, subst, arith}
-use Rattle.std.specs.List.{slice_get}
+use Rattle.std.specs.List.{slice_get, onto_first}
 use Rattle.std.proofs.lemmas.List.{length-take, length-drop, take-take, drop-drop, drop-take}
 use Rattle.std.proofs.lemmas.Bool.{le-leb}
 use Rattle.words.specs.Words.{Spot, words_of}
@@ -14,7 +14,7 @@ use Rattle.plan.specs.Names.{Texts, cut, cut_in, part_of}
 use Rattle.meaning.specs.Making.{place_of}
 use Rattle.meaning.specs.Building.{Counts, TermCounts, BodyCounts, Stands}
 use Rattle.sheet.specs.Reads.{limit}
-use Rattle.sheet.specs.Sheets.{onto, lines_of}
+use Rattle.sheet.specs.Sheets.{lines_of}
 
 -- ---- the lines of a text
 
@@ -36,14 +36,14 @@ follow_later b text o (l ∷ ls) h =
     (record { here = h.0.here; inside = omega (arith, h.0.inside) }, subst (λ n. Follow (b ∷ text) n ls) next (follow_later b text (o + length l + 1) ls h.1))
 
 -- a byte before the first line of a text
-follow_onto : (b : ℕ) (text : List ℕ) (ls : List (List ℕ)) → Follow text 0 ls → Follow (b ∷ text) 0 (onto b ls)
+follow_onto : (b : ℕ) (text : List ℕ) (ls : List (List ℕ)) → Follow text 0 ls → Follow (b ∷ text) 0 (onto_first b ls)
 follow_onto b text [] h = (record { here = refl; inside = omega arith }, tt)
 follow_onto b text (l ∷ ls) h =
     let next : suc (0 + length l + 1) ≡ 0 + suc (length l) + 1 = omega arith in
     (record { here = ap (λ (r : List ℕ). b ∷ r) h.0.here; inside = omega (arith, h.0.inside) }, subst (λ n. Follow (b ∷ text) n ls) next (follow_later b text (0 + length l + 1) ls h.1))
 
 -- a byte before a text, whether or not it ends a line
-follow_cond : (v : Bool) (b : ℕ) (text : List ℕ) (ls : List (List ℕ)) → Follow text 0 ls → Follow (b ∷ text) 0 (cond v ([] ∷ ls) (onto b ls))
+follow_cond : (v : Bool) (b : ℕ) (text : List ℕ) (ls : List (List ℕ)) → Follow text 0 ls → Follow (b ∷ text) 0 (cond v ([] ∷ ls) (onto_first b ls))
 follow_cond true b text ls h = (record { here = refl; inside = omega arith }, follow_later b text 0 ls h)
 follow_cond false b text ls h = follow_onto b text ls h
 

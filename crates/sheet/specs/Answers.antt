@@ -1,12 +1,16 @@
 -- What the readers of lines and texts answer.
-use Rattle.std.specs.Prelude.{◌≡◌, ℕ, ◌+◌, ◌-◌, ◌≤◌, cond, List, [], ◌∷◌, length, take, drop, None, Ok, Err, Result, nat_le}
+use Rattle.std.specs.Prelude.{◌≡◌, ℕ, ◌+◌, List, [], length, Some, None, Ok, Err, Option, Result}
+use Rattle.std.specs.Borrow.{Bor}
+use Rattle.words.specs.declared.ReadError.{ReadError as Unread}
+use Rattle.words.specs.declared.ReadError.TheVariants as unread
 use Rattle.faults.specs.declared.Fault.{Fault}
+use Rattle.faults.specs.declared.Problem.TheVariants as problem
 use Rattle.grammar.specs.Tree.{Line}
-use Rattle.grammar.specs.Parse.{wrong, deeper, short}
 use Rattle.plan.specs.declared.draft.Draft.{Draft}
 use Rattle.plan.specs.Items.{Items, nothing, drafted}
 use Rattle.plan.specs.Names.{Texts}
 use Rattle.meaning.specs.Solutions.{SameSolutions}
+use Rattle.sheet.specs.declared.line.Start.{Start}
 use Rattle.sheet.specs.declared.reading.Stop.{Stop}
 use Rattle.sheet.specs.declared.reading.Stop.TheVariants as stop
 use Rattle.sheet.specs.declared.sheets.ReadError.{ReadError}
@@ -14,14 +18,24 @@ use Rattle.sheet.specs.declared.sheets.ReadError.TheVariants as error
 use Rattle.sheet.specs.declared.sheets.Trouble.{Trouble}
 use Rattle.sheet.specs.declared.sheets.Trouble.TheVariants as trouble
 use Rattle.sheet.specs.Progress.{Progress}
-use Rattle.sheet.specs.Sheets.{refusal_found, checked, line_read, lines_read, lines_of}
+use Rattle.sheet.specs.Sheets.{slip_problem, checked, line_read, lines_read, lines_of}
 
--- what a line of n bytes that stops so is faulty for
-abbrev pub StopTells : Stop → ℕ → Trouble → Type 0
-StopTells stop.Memory n t = t ≡ trouble.Memory
-StopTells (stop.Word c) n t = t ≡ trouble.Found (refusal_found n (wrong c))
-StopTells (stop.Deep c) n t = t ≡ trouble.Found (refusal_found n (deeper c))
-StopTells stop.Short n t = t ≡ trouble.Found (refusal_found n short)
+-- a line whose words cannot be read
+abbrev pub unworded : Unread → Trouble
+unworded unread.Memory = trouble.Memory
+unworded (unread.Fault s c) = trouble.Found (record { problem = slip_problem s; column = c })
+
+-- a line that stops so, by the column just past its end
+abbrev pub stopped : ℕ → Stop → Trouble
+stopped k stop.Memory = trouble.Memory
+stopped k (stop.Word c) = trouble.Found (record { problem = problem.Word; column = c })
+stopped k (stop.Deep c) = trouble.Found (record { problem = problem.Nesting; column = c })
+stopped k stop.Short = trouble.Found (record { problem = problem.Word; column = k })
+
+-- trouble in line k of text t
+abbrev pub fault_at : ℕ → ℕ → Trouble → ReadError
+fault_at t k trouble.Memory = error.Memory
+fault_at t k (trouble.Found f) = error.Fault (record { problem = f.problem; text = t; line = k; column = f.column })
 
 -- a line whose words are a line: what its names, its numbers and the limits of a plan say
 abbrev pub Ended : Result (Unit {0}) Trouble → Progress → Type 0
@@ -29,27 +43,32 @@ Ended (Ok u) p = (checked p.found p.items ≡ Ok p.items) × (p.found ≡ None)
 Ended (Err trouble.Memory) p = ⊥
 Ended (Err (trouble.Found f)) p = checked p.found p.items ≡ Err f
 
+-- what is read so far of a line or of a text, with nothing wrong
+pub record Fine (p e : Progress) : Type 0 where
+  pub texts : e.texts ≡ p.texts
+  pub found : e.found ≡ None
+
 -- a line of bytes; want of memory tells nothing
-abbrev pub LineReads : Result (Unit {0}) Trouble → Texts → ℕ → ℕ → Items → List ℕ → Progress → Type 0
-LineReads (Ok u) ts t o d bytes e = (line_read ts t o d bytes ≡ Ok e.items) × (e.found ≡ None)
-LineReads (Err trouble.Memory) ts t o d bytes e = Unit {0}
-LineReads (Err (trouble.Found f)) ts t o d bytes e = line_read ts t o d bytes ≡ Err f
+abbrev pub LineReads : Result (Unit {0}) Trouble → Start → Progress → List ℕ → Progress → Type 0
+LineReads (Ok u) s p bytes e = (line_read p.texts s.text s.offset p.items bytes ≡ Ok e.items) × Fine p e
+LineReads (Err trouble.Memory) s p bytes e = Unit {0}
+LineReads (Err (trouble.Found f)) s p bytes e = line_read p.texts s.text s.offset p.items bytes ≡ Err f
 
--- the lines from an offset on; past the end there is none
-abbrev pub lines_from : List ℕ → ℕ → List (List ℕ)
-lines_from text o = cond (nat_le o (length text)) (lines_of (drop o text)) []
+-- the lines that are left of a text, where the text goes on after a line
+abbrev pub lines_in : Option (Bor (List ℕ)) → List (List ℕ)
+lines_in None = []
+lines_in (Some text) = lines_of text.now
 
--- the line at an offset ends at r
-pub record LineEnds (text : List ℕ) (o r : ℕ) : Type 0 where
-  pub after : o ≤ r
-  pub inside : r ≤ length text
-  pub is : lines_from text o ≡ take (r - o) (drop o text) ∷ lines_from text (r + 1)
+-- how many bytes are left of it, with the byte 10 before them
+abbrev pub left : Option (Bor (List ℕ)) → ℕ
+left None = 0
+left (Some text) = length text.now + 1
 
 -- the lines of a text; want of memory tells nothing
-abbrev pub TextReads : Result (Unit {0}) ReadError → Texts → ℕ → Items → List ℕ → Progress → Type 0
-TextReads (Ok u) ts t d text e = (lines_read ts t 1 0 (lines_of text) d ≡ Ok e.items) × (e.found ≡ None)
-TextReads (Err error.Memory) ts t d text e = Unit {0}
-TextReads (Err (error.Fault f)) ts t d text e = lines_read ts t 1 0 (lines_of text) d ≡ Err f
+abbrev pub TextReads : Result (Unit {0}) ReadError → ℕ → Progress → List ℕ → Progress → Type 0
+TextReads (Ok u) t p text e = (lines_read p.texts t 1 0 (lines_of text) p.items ≡ Ok e.items) × Fine p e
+TextReads (Err error.Memory) t p text e = Unit {0}
+TextReads (Err (error.Fault f)) t p text e = lines_read p.texts t 1 0 (lines_of text) p.items ≡ Err f
 
 -- two texts, as a draft
 abbrev pub BothRead : Result Draft ReadError → Result Items Fault → Type 0

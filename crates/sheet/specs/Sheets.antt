@@ -1,5 +1,6 @@
 -- What two texts are read as: line by line, the first faulty line, on it reader, grammar and sheet in turn, each from the left.
 use Rattle.std.specs.Prelude.{ℕ, ◌+◌, cond, List, [], ◌∷◌, ◌++◌, map, length, Some, None, Ok, Err, Option, Result, ◌==◌, nat_lt}
+use Rattle.std.specs.List.{slice_split}
 use Rattle.words.specs.declared.Slip.{Slip}
 use Rattle.words.specs.declared.Slip.TheVariants as slip
 use Rattle.words.specs.Words.{Spot, words_of}
@@ -15,15 +16,9 @@ use Rattle.meaning.specs.Making.{line_makes}
 use Rattle.meaning.specs.Checks.{line_fault}
 use Rattle.sheet.specs.Reads.{limit}
 
--- a byte before the first of some lines
-abbrev pub onto : ℕ → List (List ℕ) → List (List ℕ)
-onto b [] = (b ∷ []) ∷ []
-onto b (l ∷ ls) = (b ∷ l) ∷ ls
-
 -- the lines of a text: each ends with byte 10, the last with the text
 abbrev pub lines_of : List ℕ → List (List ℕ)
-lines_of [] = [] ∷ []
-lines_of (b ∷ s) = cond (b == 10) ([] ∷ lines_of s) (onto b (lines_of s))
+lines_of text = slice_split (λ b. b == 10) text
 
 -- ---- the reader
 

@@ -1,136 +1,113 @@
 // Constraints: the forms of fixed shape, and two expressions joined by `<=`.
-ghost use Rattle.std.specs.Prelude.{◌≤◌, [], ◌∷◌, length};
 ghost use Rattle.grammar.specs.Parse.{after_in, after_align, after_apart};
 ghost use Rattle.sheet.specs.Progress.{progress};
+ghost use Rattle.sheet.specs.Next.{tree_name};
 ghost use Rattle.sheet.specs.Forms.{FormTells, BoundTells, BodyTells};
 
-use crate::expression::{cell_named, expression, is};
-use crate::heads::Head;
-use crate::reading::{Reading, Stop, Texts};
-use crate::words_at::{end_at, head_at, name_at, number_at, to_at};
+use crate::next::{Name, end, expect, next_name, next_number, next_to};
+use crate::reading::{Reading, Stop};
 use faults::Problem;
 use plan::constraint::Form;
 use statements::residue::Residue;
 use statements::statement::Statement;
-use words::{Keyword, Placed, Symbol};
+use words::{Keyword, Placed, Symbol, Token};
 
 /// The largest power of two that an alignment may name.
 pub const FINEST: u32 = 24;
 
-// `N in LO to HI`, after `in`.
-fn within(
-    reading: &mut Reading,
-    texts: Texts<'_>,
-    owner: Option<usize>,
-    head: Head<'_>,
-    words: &[Placed<'_>],
-    at: usize,
-) -> Result<(), Stop>
-    requires { at ≤ length words.now }
-    ensures { FormTells after_in result (texts.entry.chip.now ∷ texts.entry.project.now ∷ []) owner (record { column = head.entry.column; bytes = head.entry.name.now }) (progress reading.old) words.now at (progress reading.new) }
-{
-    let cell = cell_named(reading, texts, head.name, head.column);
-    let (lo, _) = number_at(words, at)?;
-    let _ = to_at(words, at + 1)?;
-    let (hi, _) = number_at(words, at + 2)?;
-    end_at(words, at + 3)?;
-    let stated = Statement::Between(i64::from(lo), i64::from(hi));
-    reading.push(owner, Form::State(cell, stated))
-}
-
-// `N align K R`, after `align`.
-fn aligned(
-    reading: &mut Reading,
-    texts: Texts<'_>,
-    owner: Option<usize>,
-    head: Head<'_>,
-    words: &[Placed<'_>],
-    at: usize,
-) -> Result<(), Stop>
-    requires { at ≤ length words.now }
-    ensures { FormTells after_align result (texts.entry.chip.now ∷ texts.entry.project.now ∷ []) owner (record { column = head.entry.column; bytes = head.entry.name.now }) (progress reading.old) words.now at (progress reading.new) }
-{
-    let cell = cell_named(reading, texts, head.name, head.column);
-    let (k, k_column) = number_at(words, at)?;
-    let (r, r_column) = number_at(words, at + 1)?;
-    end_at(words, at + 2)?;
-    if k > FINEST {
-        reading.note(Problem::Range, k_column);
-        return Ok(());
+impl<'a> Reading<'a> {
+    // `N in LO to HI`, after `in`.
+    fn within(
+        &mut self,
+        owner: Option<usize>,
+        named: Name<'a>,
+        words: &[Placed<'a>],
+    ) -> Result<(), Stop>
+        ensures { FormTells after_in result owner (tree_name named.entry) (progress self.old) words.now (progress self.new) }
+    {
+        let cell = self.cell_named(named);
+        let (lo, rest) = next_number(words)?;
+        let rest = next_to(rest)?;
+        let (hi, rest) = next_number(rest)?;
+        end(rest)?;
+        let stated = Statement::Between(i64::from(lo.value), i64::from(hi.value));
+        self.push(owner, Form::State(cell, stated))
     }
-    match Residue::new(k, r) {
-        Some(rest) => reading.push(owner, Form::State(cell, Statement::Aligned(rest))),
-        None => {
-            reading.note(Problem::Range, r_column);
-            Ok(())
+
+    // `N align K R`, after `align`.
+    fn aligned(
+        &mut self,
+        owner: Option<usize>,
+        named: Name<'a>,
+        words: &[Placed<'a>],
+    ) -> Result<(), Stop>
+        ensures { FormTells after_align result owner (tree_name named.entry) (progress self.old) words.now (progress self.new) }
+    {
+        let cell = self.cell_named(named);
+        let (k, rest) = next_number(words)?;
+        let (r, rest) = next_number(rest)?;
+        end(rest)?;
+        if k.value > FINEST {
+            self.note(Problem::Range, k.column);
+            return Ok(());
+        }
+        match Residue::new(k.value, r.value) {
+            Some(residue) => self.push(owner, Form::State(cell, Statement::Aligned(residue))),
+            None => {
+                self.note(Problem::Range, r.column);
+                Ok(())
+            }
         }
     }
-}
 
-// `A apart D B E`, after `apart`.
-fn apart(
-    reading: &mut Reading,
-    texts: Texts<'_>,
-    owner: Option<usize>,
-    head: Head<'_>,
-    words: &[Placed<'_>],
-    at: usize,
-) -> Result<(), Stop>
-    requires { at ≤ length words.now }
-    ensures { FormTells after_apart result (texts.entry.chip.now ∷ texts.entry.project.now ∷ []) owner (record { column = head.entry.column; bytes = head.entry.name.now }) (progress reading.old) words.now at (progress reading.new) }
-{
-    let a = cell_named(reading, texts, head.name, head.column);
-    let (d, _) = number_at(words, at)?;
-    let (name, column) = name_at(words, at + 1)?;
-    let b = cell_named(reading, texts, name, column);
-    let (e, _) = number_at(words, at + 2)?;
-    end_at(words, at + 3)?;
-    reading.push(owner, Form::Apart(a, d, b, e))
-}
+    // `A apart D B E`, after `apart`.
+    fn apart(
+        &mut self,
+        owner: Option<usize>,
+        named: Name<'a>,
+        words: &[Placed<'a>],
+    ) -> Result<(), Stop>
+        ensures { FormTells after_apart result owner (tree_name named.entry) (progress self.old) words.now (progress self.new) }
+    {
+        let a = self.cell_named(named);
+        let (d, rest) = next_number(words)?;
+        let (other, rest) = next_name(rest)?;
+        let b = self.cell_named(other);
+        let (e, rest) = next_number(rest)?;
+        end(rest)?;
+        self.push(owner, Form::Apart(a, d.value, b, e.value))
+    }
 
-// An expression, `<=`, an expression: a gap of 0, made after its helpers, which nothing owns.
-fn at_most(
-    reading: &mut Reading,
-    texts: Texts<'_>,
-    owner: Option<usize>,
-    words: &[Placed<'_>],
-    at: usize,
-) -> Result<(), Stop>
-    requires { at ≤ length words.now }
-    ensures { BoundTells result (texts.entry.chip.now ∷ texts.entry.project.now ∷ []) owner (progress reading.old) words.now at (progress reading.new) }
-{
-    let (left, middle) = expression(reading, texts, None, words, at, 0)?;
-    if middle >= words.len() {
-        return Err(Stop::Short);
+    // An expression, `<=`, an expression: a gap of 0, made after its helpers, which nothing owns.
+    fn at_most(&mut self, owner: Option<usize>, words: &[Placed<'a>]) -> Result<(), Stop>
+        ensures { BoundTells result owner (progress self.old) words.now (progress self.new) }
+    {
+        let (left, rest) = self.expression(words, 0)?;
+        let rest = expect(rest, Symbol::AtMost)?;
+        let (right, rest) = self.expression(rest, 0)?;
+        end(rest)?;
+        self.push(owner, Form::Gap(left, 0, right))
     }
-    if !is(words[middle], Symbol::AtMost) {
-        return Err(Stop::Word(words[middle].column));
-    }
-    let (right, end) = expression(reading, texts, None, words, middle + 1, 0)?;
-    if end < words.len() {
-        return Err(Stop::Word(words[end].column));
-    }
-    reading.push(owner, Form::Gap(left, 0, right))
-}
 
-// What a line asks, from word `at` on, after the premise that owns it.
-pub(crate) fn body(
-    reading: &mut Reading,
-    texts: Texts<'_>,
-    owner: Option<usize>,
-    words: &[Placed<'_>],
-    at: usize,
-) -> Result<(), Stop>
-    requires { at ≤ length words.now }
-    ensures { BodyTells result (texts.entry.chip.now ∷ texts.entry.project.now ∷ []) owner (progress reading.old) words.now at (progress reading.new) }
-{
-    match head_at(words, at) {
-        Some(head) => match head.keyword {
-            Keyword::In => within(reading, texts, owner, head, words, at + 2),
-            Keyword::Align => aligned(reading, texts, owner, head, words, at + 2),
-            Keyword::Apart => apart(reading, texts, owner, head, words, at + 2),
-            _ => Err(Stop::Word(head.after)),
-        },
-        None => at_most(reading, texts, owner, words, at),
+    // What a line asks, after the premise that owns it.
+    pub(crate) fn body(&mut self, owner: Option<usize>, words: &[Placed<'a>]) -> Result<(), Stop>
+        ensures { BodyTells result owner (progress self.old) words.now (progress self.new) }
+    {
+        let [first, second, rest @ ..] = words else {
+            return self.at_most(owner, words);
+        };
+        let column = first.column;
+        match (first.token, second.token) {
+            (Token::Name(bytes), Token::Reserved(keyword)) => {
+                let named = Name { column, bytes };
+                match keyword {
+                    Keyword::In => self.within(owner, named, rest),
+                    Keyword::Align => self.aligned(owner, named, rest),
+                    Keyword::Apart => self.apart(owner, named, rest),
+                    _ => Err(Stop::Word(second.column)),
+                }
+            }
+            _ => self.at_most(owner, words),
+        }
     }
 }

@@ -3,8 +3,9 @@
 
 mod expression;
 mod forms;
-mod heads;
 mod line;
+mod next;
 pub mod reading;
 pub mod sheets;
-mod words_at;
+
+pub use forms::FINEST;

@@ -1,16 +1,18 @@
 // Two texts, read into a plan.
-ghost use Rattle.std.specs.Prelude.{◌≡◌, ◌+◌, ◌≤◌, [], ◌∷◌, length, None};
+ghost use Rattle.std.specs.Prelude.{◌≡◌, ◌+◌, ◌≤◌, ◌==◌, ◌∷◌, length, position, None};
 ghost use Rattle.sheet.specs.declared.sheets.ReadError.TheVariants.{Fault as Failed};
-ghost use Rattle.plan.specs.Items.{planned, drafted};
+ghost use Rattle.plan.specs.Items.{planned};
+ghost use Rattle.plan.specs.Names.{texts_of};
 ghost use Rattle.sheet.specs.Progress.{progress};
-ghost use Rattle.sheet.specs.Sheets.{slip_problem, too_long, sheets_read, trees_of};
-ghost use Rattle.sheet.specs.Answers.{StopTells, Ended, LineReads, LineEnds, TextReads, BothRead, Reads, Solved};
+ghost use Rattle.sheet.specs.Sheets.{slip_problem, lines_of, too_long, sheets_read, trees_of};
+ghost use Rattle.sheet.specs.Answers.{unworded, stopped, fault_at, Ended, LineReads, left, lines_in, TextReads, BothRead, Reads, Solved};
 
-use crate::line::line;
-use crate::reading::{Reading, Stop, Texts};
+use crate::line::Start;
+use crate::reading::{Reading, Stop};
 use faults::{Fault, Found, Problem};
 use plan::draft::Draft;
 use plan::plan::Plan;
+use plan::texts::Texts;
 use std::alloc::Global;
 use words::{Slip, words};
 
@@ -31,6 +33,7 @@ pub enum Trouble {
     Found(Found),
 }
 
+// A slip is a problem of the sheet. Both types are of other crates, so a From cannot stand here.
 fn problem_of(slip: Slip) -> Problem
     ensures { result ≡ slip_problem slip }
 {
@@ -41,118 +44,124 @@ fn problem_of(slip: Slip) -> Problem
     }
 }
 
-// What a line of `len` bytes that stops so is faulty for.
-fn trouble_of(stop: Stop, len: usize) -> Trouble
-    requires { len ≤ 32768 }
-    ensures { StopTells stop len result }
-{
-    match stop {
-        Stop::Memory => Trouble::Memory,
-        Stop::Word(column) => Trouble::Found(Found {
-            problem: Problem::Word,
-            column,
-        }),
-        Stop::Deep(column) => Trouble::Found(Found {
-            problem: Problem::Nesting,
-            column,
-        }),
-        Stop::Short => Trouble::Found(Found {
-            problem: Problem::Word,
-            column: len + 1,
-        }),
-    }
-}
+impl From<words::ReadError> for Trouble {
+    ghost from_gives = { λ e t. t ≡ unworded e };
 
-// What is wrong with a line whose words are a line.
-fn ended(reading: &Reading) -> Result<(), Trouble>
-    ensures { Ended result (progress reading.now) }
-{
-    if let Some(found) = reading.found {
-        return Err(Trouble::Found(found));
-    }
-    if !reading.draft.is_few() {
-        return Err(Trouble::Found(Found {
-            problem: Problem::Full,
-            column: 1,
-        }));
-    }
-    Ok(())
-}
-
-// One line of bytes, at an offset of a text.
-fn read_line(
-    heap: Global,
-    reading: &mut Reading,
-    texts: Texts<'_>,
-    text: usize,
-    offset: usize,
-    bytes: &[u8],
-) -> Result<(), Trouble>
-    requires fresh { reading.old.found ≡ None }
-    requires inside { offset + length bytes.now ≤ 32768 }
-    ensures { LineReads result (texts.entry.chip.now ∷ texts.entry.project.now ∷ []) text offset (drafted reading.old.draft) bytes.now (progress reading.new) }
-{
-    match words(heap, bytes) {
-        Ok(found) => match line(reading, texts, text, offset, found.as_slice()) {
-            Ok(_) => ended(reading),
-            Err(stop) => Err(trouble_of(stop, bytes.len())),
-        },
-        Err(error) => match error {
-            words::ReadError::Memory => Err(Trouble::Memory),
-            words::ReadError::Fault(slip, column) => Err(Trouble::Found(Found {
-                problem: problem_of(slip),
-                column,
-            })),
-        },
-    }
-}
-
-// Where the line that begins at `start` ends: at its byte 10, or with the text.
-fn line_end(text: &[u8], start: usize) -> usize
-    requires { start ≤ length text.now }
-    ensures { LineEnds text.now start result }
-{
-    let mut end = start;
-    while end < text.len() && text[end] != b'\n' {
-        end += 1;
-    }
-    end
-}
-
-// All lines of a text.
-fn read_text(
-    heap: Global,
-    reading: &mut Reading,
-    texts: Texts<'_>,
-    number: usize,
-    text: &[u8],
-) -> Result<(), ReadError>
-    requires fresh { reading.old.found ≡ None }
-    requires short { length text.now ≤ 32768 }
-    ensures { TextReads result (texts.entry.chip.now ∷ texts.entry.project.now ∷ []) number (drafted reading.old.draft) text.now (progress reading.new) }
-{
-    let mut start = 0;
-    let mut line = 1;
-    while start <= text.len() {
-        let end = line_end(text, start);
-        match read_line(heap, reading, texts, number, start, &text[start..end]) {
-            Ok(_) => {}
-            Err(trouble) => match trouble {
-                Trouble::Memory => return Err(ReadError::Memory),
-                Trouble::Found(found) => {
-                    return Err(ReadError::Fault(Fault {
-                        problem: found.problem,
-                        text: number,
-                        line,
-                        column: found.column,
-                    }));
-                }
-            },
+    fn from(error: words::ReadError) -> Trouble {
+        match error {
+            words::ReadError::Memory => Trouble::Memory,
+            words::ReadError::Fault(slip, column) => {
+                let problem = problem_of(slip);
+                Trouble::Found(Found { problem, column })
+            }
         }
-        start = end + 1;
-        line += 1;
     }
-    Ok(())
+}
+
+impl Stop {
+    // What a line is faulty for that stops so, by the column just past its end.
+    fn trouble(self, past: usize) -> Trouble
+        ensures { result ≡ stopped past self }
+    {
+        let (problem, column) = match self {
+            Stop::Memory => return Trouble::Memory,
+            Stop::Word(column) => (Problem::Word, column),
+            Stop::Deep(column) => (Problem::Nesting, column),
+            Stop::Short => (Problem::Word, past),
+        };
+        Trouble::Found(Found { problem, column })
+    }
+}
+
+impl Trouble {
+    // Why two texts are not read that have this trouble in a line.
+    fn at(self, text: usize, line: usize) -> ReadError
+        ensures { result ≡ fault_at text line self }
+    {
+        match self {
+            Trouble::Memory => ReadError::Memory,
+            Trouble::Found(found) => ReadError::Fault(Fault {
+                problem: found.problem,
+                text,
+                line,
+                column: found.column,
+            }),
+        }
+    }
+}
+
+// Where the first byte 10 of a text stands.
+fn newline(text: &[u8]) -> Option<usize>
+    ensures { result ≡ position (λ b. b == 10) text.now }
+{
+    text.iter().position(|b| *b == b'\n')
+}
+
+// The first line of a text, and the text after its byte 10, if it ends with one.
+fn first_line(text: &[u8]) -> (&[u8], Option<&[u8]>)
+    ensures lines { lines_of text.now ≡ result.0.now ∷ lines_in result.1 }
+    ensures bytes { length result.0.now + left result.1 ≡ length text.now }
+{
+    match newline(text) {
+        Some(end) => (&text[..end], Some(&text[end + 1..])),
+        None => (text, None),
+    }
+}
+
+impl<'a> Reading<'a> {
+    // What is wrong with a line whose words are a line.
+    fn ended(&self) -> Result<(), Trouble>
+        ensures { Ended result (progress self.now) }
+    {
+        if let Some(found) = self.found {
+            return Err(Trouble::Found(found));
+        }
+        if !self.draft.is_few() {
+            return Err(Trouble::Found(Found {
+                problem: Problem::Full,
+                column: 1,
+            }));
+        }
+        Ok(())
+    }
+
+    // One line of bytes.
+    fn read_line(&mut self, heap: Global, start: Start, bytes: &'a [u8]) -> Result<(), Trouble>
+        requires fresh { self.old.found ≡ None }
+        requires inside { start.offset + length bytes.now ≤ 32768 }
+        ensures { LineReads result start (progress self.old) bytes.now (progress self.new) }
+    {
+        let found = words(heap, bytes)?;
+        match self.line(start, found.as_slice()) {
+            Ok(()) => self.ended(),
+            Err(stop) => Err(stop.trouble(bytes.len() + 1)),
+        }
+    }
+
+    // All lines of a text.
+    fn read_text(&mut self, heap: Global, number: usize, text: &'a [u8]) -> Result<(), ReadError>
+        requires fresh { self.old.found ≡ None }
+        requires short { length text.now ≤ 32768 }
+        ensures { TextReads result number (progress self.old) text.now (progress self.new) }
+    {
+        let mut rest = Some(text);
+        let mut offset = 0;
+        let mut line = 1;
+        while let Some(bytes) = rest {
+            let (first, more) = first_line(bytes);
+            let start = Start {
+                text: number,
+                offset,
+            };
+            if let Err(trouble) = self.read_line(heap, start, first) {
+                return Err(trouble.at(number, line));
+            }
+            offset += first.len() + 1;
+            line += 1;
+            rest = more;
+        }
+        Ok(())
+    }
 }
 
 fn too_long(number: usize) -> ReadError
@@ -167,37 +176,32 @@ fn too_long(number: usize) -> ReadError
 }
 
 // Both texts, into a draft.
-fn read_both<'a>(heap: Global, chip: &'a [u8], project: &'a [u8]) -> Result<Draft, ReadError>
-    ensures { BothRead result (sheets_read chip.now project.now) }
+fn read_both(heap: Global, texts: Texts<'_>) -> Result<Draft, ReadError>
+    ensures { BothRead result (sheets_read texts.entry.chip.now texts.entry.project.now) }
 {
-    if chip.len() > LONGEST {
+    if texts.chip.len() > LONGEST {
         return Err(too_long(0));
     }
-    if project.len() > LONGEST {
+    if texts.project.len() > LONGEST {
         return Err(too_long(1));
     }
     let mut reading = Reading {
+        texts,
         draft: Draft::new(heap),
         found: None,
     };
-    let texts = Texts { chip, project };
-    read_text(heap, &mut reading, texts, 0, chip)?;
-    read_text(heap, &mut reading, texts, 1, project)?;
+    reading.read_text(heap, 0, texts.chip)?;
+    reading.read_text(heap, 1, texts.project)?;
     Ok(reading.draft)
 }
 
 /// Reads a chip text and a project text into the plan, whatever it held before. On a fault, and for want of memory, the
 /// plan is empty.
-pub fn read<'a>(
-    heap: Global,
-    plan: &mut Plan,
-    chip: &'a [u8],
-    project: &'a [u8],
-) -> Result<(), ReadError>
-    ensures tells { Reads result (sheets_read chip.now project.now) (planned plan.new) }
-    ensures same { Solved result (chip.now ∷ project.now ∷ []) (trees_of chip.now project.now) (planned plan.new) }
+pub fn read<'a>(heap: Global, plan: &mut Plan, texts: Texts<'a>) -> Result<(), ReadError>
+    ensures tells { Reads result (sheets_read texts.entry.chip.now texts.entry.project.now) (planned plan.new) }
+    ensures same { Solved result (texts_of texts.entry) (trees_of texts.entry.chip.now texts.entry.project.now) (planned plan.new) }
 {
-    match read_both(heap, chip, project) {
+    match read_both(heap, texts) {
         Ok(draft) => {
             let _ = plan.fill(draft);
             Ok(())
