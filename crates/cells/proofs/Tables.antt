@@ -5,9 +5,10 @@ use Rattle.std.proofs.lemmas.List.{get_or-set_same, get_or-set_other}
 use Rattle.std.proofs.lemmas.Bool.{cond_both, eqb-true, eq-eqb}
 use Rattle.statements.proofs.Tests.{test_clash}
 use Rattle.facts.specs.Model.{Model}
+use Rattle.telling.specs.Tables as tables
 use Rattle.telling.specs.Tables.{upd, start_cell}
 use Rattle.cells.specs.declared.cell.Cell.{Cell}
-use Rattle.cells.specs.Meaning.{cell_of, table_of}
+use Rattle.cells.specs.Meaning.{tags_of, cell_of, table_of}
 
 get_or-upd : {A : Type 0} (d : A) (xs : List A) (i : ℕ) (v : A) → i < length xs → (λ j. get_or (set xs i v) j d) ≡ upd (λ j. get_or xs j d) i v
 get_or-upd d xs i v lt =
@@ -39,3 +40,6 @@ table_at m (x ∷ xs) (suc i) d lt = table_at m xs i d (omega arith)
 -- What an index reads.
 pub read_cell : {F : Type 0} (m : Model F) (xs : List (Cell F)) (i : ℕ) (r : Cell F) → i < length xs → r ≡ get_or xs i r → cell_of r ≡ table_of m xs i
 read_cell m xs i r lt is = ap cell_of is ∙ sym (table_at m xs i r lt)
+
+pub read_reasons : {F : Type 0} (m : Model F) (xs : List (Cell F)) (i : ℕ) (d : Cell F) → i < length xs → tags_of (get_or xs i d).reasons ≡ (table_of m xs i).reasons
+read_reasons m xs i d lt = ap (λ (z : tables.Cell _). z.reasons) (sym (table_at m xs i d lt))
