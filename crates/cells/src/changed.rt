@@ -33,10 +33,17 @@ impl Changed {
         self.count += 1;
     }
 
+    /// The cells, in the order in which they changed.
+    pub fn as_slice(&self) -> &[usize]
+        ensures { result.now ≡ changed_cells self.now }
+    {
+        &self.cells[..self.count]
+    }
+
     /// The i-th of them, from 0; absent past the last.
     pub fn at(self, i: usize) -> Option<usize>
         ensures { result ≡ slice_get (changed_cells self) i }
     {
-        self.cells[..self.count].get(i).copied()
+        self.as_slice().get(i).copied()
     }
 }
