@@ -1,7 +1,8 @@
 -- A firing gone through tell by tell.
-use Rattle.std.proofs.Common.{◌≡◌, ℕ, ◌+◌, ◌≤◌, Bool, true, false, cond, List, [], ◌∷◌, ◌++◌, length, drop, Some, None, sym, refl, ap, ◌∙◌, arith}
-use Rattle.std.specs.List.{slice_get}
+use Rattle.std.proofs.Common.{◌≡◌, ℕ, ◌+◌, ◌≤◌, Bool, true, false, ◌||◌, cond, List, [], ◌∷◌, ◌++◌, length, sym, refl, ap, ap₂, ◌∙◌, subst, append_assoc, length-append, arith}
+use Rattle.std.specs.List.{list_any}
 use Rattle.std.proofs.lemmas.Bool.{cond-true, cond-false}
+use Rattle.std.proofs.lemmas.List.{append-nil}
 use Rattle.facts.specs.Model.{Model}
 use Rattle.facts.specs.Laws.{Laws}
 use Rattle.facts.specs.Derived.{none, dead}
@@ -9,8 +10,6 @@ use Rattle.plan.specs.Forms.{named}
 use Rattle.plan.specs.Known.{known}
 use Rattle.plan.specs.Placements.{Premises, owned_by}
 use Rattle.plan.specs.declared.constraint.Constraint.{Constraint}
-use Rattle.plan.specs.declared.constraint.Form.{Form}
-use Rattle.plan.specs.declared.constraint.Form.TheVariants.{State, Sum, Gap, Apart}
 use Rattle.forms.specs.Tells.{tells}
 use Rattle.forms.specs.declared.tell.Tell.{Tell}
 use Rattle.sets.specs.Members.{among}
@@ -23,137 +22,96 @@ use Rattle.cells.specs.declared.cell.Cell.{Cell}
 use Rattle.cells.specs.declared.changed.Changed.{Changed}
 use Rattle.cells.specs.Meaning.{table_of}
 use Rattle.cells.specs.Changes.{changed_cells, Done}
-use Rattle.cells.proofs.Lists.{drop_here, drop-end}
 
-pub named-few : (q : Form) → length (named q) ≤ 3
-named-few (State c s) = omega arith
-named-few (Sum a b c) = omega arith
-named-few (Gap a d b) = omega arith
-named-few (Apart a d b e) = omega arith
-
-pub tells-few : (q : Form) → length (tells q) ≤ 4
-tells-few (State c s) = omega arith
-tells-few (Sum a b c) = omega arith
-tells-few (Gap a d b) = omega arith
-tells-few (Apart a d b e) = omega arith
-
-append_assoc : {A : Type 0} (xs ys zs : List A) → (xs ++ ys) ++ zs ≡ xs ++ (ys ++ zs)
-append_assoc [] ys zs = refl
-append_assoc (x ∷ xs) ys zs = ap (λ z. x ∷ z) (append_assoc xs ys zs)
-
-append_none : {A : Type 0} (xs : List A) → xs ++ [] ≡ xs
-append_none [] = refl
-append_none (x ∷ xs) = ap (λ z. x ∷ z) (append_none xs)
-
-pub any_more : {A : Type 0} (p : A → Bool) (xs : List A) (i : ℕ) (x : A) → Some x ≡ slice_get xs i → false ≡ p x → any p (drop i xs) ≡ any p (drop (i + 1) xs)
+pub any-list : {A : Type 0} (p : A → Bool) (xs : List A) → any p xs ≡ list_any p xs
 unfolding any
-any_more p xs i x e h = ap (any p) (drop_here xs i x e) ∙ ap (λ b. mathlib.Core.Bool.◌||◌ b (any p (drop (i + 1) xs))) (sym h)
+any-list p [] = refl
+any-list p (x ∷ xs) = ap (λ b. p x || b) (any-list p xs)
 
-pub any_found : {A : Type 0} (p : A → Bool) (xs : List A) (i : ℕ) (x : A) → Some x ≡ slice_get xs i → true ≡ p x → any p (drop i xs) ≡ true
-unfolding any
-any_found p xs i x e h = ap (any p) (drop_here xs i x e) ∙ ap (λ b. mathlib.Core.Bool.◌||◌ b (any p (drop (i + 1) xs))) (sym h)
+-- ---- a list gone through from its front
 
-pub any-end : {A : Type 0} (p : A → Bool) (xs : List A) (i : ℕ) → None ≡ slice_get xs i → any p (drop i xs) ≡ false
-unfolding any
-any-end p xs i e = ap (any p) (drop-end xs i e)
+-- Of all, those of left are still to come: the table was S and is T, and cs are the cells that have changed.
+pub record SoFar {F A : Type 0} (after : List A → Table F → Table F) (change : List A → Table F → List ℕ) (all : List A) (S : Table F) (left : List A) (T : Table F) (cs : List ℕ) : Type 0 where
+  pub few : length cs + length left ≤ 4
+  pub table : after all S ≡ after left T
+  pub cells : change all S ≡ cs ++ change left T
+
+module _ {F A : Type 0} {after : List A → Table F → Table F} {change : List A → Table F → List ℕ} {all : List A} {S : Table F} where
+  -- One more is done, which changed the cells ds.
+  so_far_more : {left : List A} {T : Table F} {cs : List ℕ} → SoFar after change all S left T cs → (y : A) (ys : List A) (T' : Table F) (ds cs' : List ℕ) → left ≡ y ∷ ys → after (y ∷ ys) T ≡ after ys T' → change (y ∷ ys) T ≡ ds ++ change ys T' → length ds ≤ 1 → cs' ≡ cs ++ ds →
+      SoFar after change all S ys T' cs'
+  so_far_more {T = T} {cs = cs} so y ys T' ds cs' is e f one g = record {
+    few = let a = so.few in let l = ap length is in let k = ap length g ∙ length-append cs ds in omega arith;
+    table = so.table ∙ ap (λ z. after z T) is ∙ e;
+    cells = so.cells ∙ ap (λ z. cs ++ change z T) is ∙ ap (λ z. cs ++ z) f ∙ sym (append_assoc cs ds (change ys T')) ∙ ap (λ z. z ++ change ys T') (sym g);
+  }
+
+  -- One more is done, and it is the last.
+  so_far-last : {left : List A} {T : Table F} {cs : List ℕ} → SoFar after change all S left T cs → (z : List A) (T' : Table F) (ds cs' : List ℕ) → left ≡ z → after z T ≡ T' → change z T ≡ ds → cs' ≡ cs ++ ds → (T' ≡ after all S) × (cs' ≡ change all S)
+  so_far-last {T = T} {cs = cs} so z T' ds cs' is e f g =
+      (sym (so.table ∙ ap (λ z. after z T) is ∙ e), sym (so.cells ∙ ap (λ z. cs ++ change z T) is ∙ ap (λ z. cs ++ z) f ∙ sym g))
+
+-- The cells that have changed, and x if it changed.
+pub grown_then : (b : Bool) (x : ℕ) (cs cs' : List ℕ) → b ≡ true → cs' ≡ cs ++ x ∷ [] → cs' ≡ cs ++ cond b (x ∷ []) []
+grown_then b x cs cs' h e = subst (λ z. cs' ≡ cs ++ cond z (x ∷ []) []) (sym h) e
+
+pub grown_else : (b : Bool) (x : ℕ) (cs cs' : List ℕ) → b ≡ false → cs' ≡ cs → cs' ≡ cs ++ cond b (x ∷ []) []
+grown_else b x cs cs' h e = subst (λ z. cs' ≡ cs ++ cond z (x ∷ []) []) (sym h) (e ∙ sym (append-nil cs))
+
+at_most_one : (b : Bool) (x : ℕ) → length (cond b (x ∷ []) []) ≤ 1
+at_most_one true x = omega arith
+at_most_one false x = omega arith
 
 -- ---- cells told that no number is allowed
 
--- Of the cells that are to be told, the first i have been: from S to T, and these of them have changed.
-pub record DeadsSoFar {F : Type 0} (m : Model F) (ps : Premises) (ns : List ℕ) (S : Table F) (i : ℕ) (T : Table F) (c : Changed) : Type 0 where
-  pub few : c.count ≤ i
-  pub table : after_deads m ps ns ns S ≡ after_deads m ps ns (drop i ns) T
-  pub cells : deads_change m ps ns ns S ≡ changed_cells c ++ deads_change m ps ns (drop i ns) T
+module _ {F : Type 0} (m : Model F) (ps : Premises) (ns : List ℕ) where
+  made_dead : (x : ℕ) (T : Table F) (g : F) (s : Reasons) {b : Bool} {T' : Table F} → b ≡ true → T' ≡ cond b (after_told m x g s T) T → g ≡ dead m → s ≡ together (premises_only ps) (reasons_of T ns) → T' ≡ after_dead m ps ns x T
+  unfolding after_dead
+  made_dead x T g s there e i j = e ∙ cond-true _ (after_told m x g s T) T there ∙ ap₂ (λ z r. after_told m x z r T) i j
 
-module _ {F : Type 0} (m : Model F) (ps : Premises) (ns : List ℕ) (S : Table F) where
-  pub deads_none : (c : Changed) → changed_cells c ≡ [] → c.count ≤ 0 → DeadsSoFar m ps ns S 0 S c
-  deads_none c e f = record { few = f; table = refl; cells = sym (ap (λ z. z ++ deads_change m ps ns ns S) e) }
-
-  pub deads_more : (i : ℕ) (T T' : Table F) (c c' : Changed) (x : ℕ) (b : Bool) → Some x ≡ slice_get ns i → DeadsSoFar m ps ns S i T c → T' ≡ after_dead m ps ns x T → b ≡ changed m T T' x →
-      changed_cells c' ≡ changed_cells c ++ cond b (x ∷ []) [] → c'.count ≤ c.count + 1 → DeadsSoFar m ps ns S (i + 1) T' c'
+  -- One more cell is told, and cs' are the cells that have changed then.
+  pub deads_more : {S T : Table F} {left cs : List ℕ} → SoFar (after_deads m ps ns) (deads_change m ps ns) ns S left T cs → (x : ℕ) (xs : List ℕ) (g : F) (s : Reasons) (there : Bool) (T' : Table F) (b : Bool) (cs' : List ℕ) → left ≡ x ∷ xs →
+      there ≡ true → T' ≡ cond there (after_told m x g s T) T → g ≡ dead m → s ≡ together (premises_only ps) (reasons_of T ns) → b ≡ changed m T T' x → cs' ≡ cs ++ cond b (x ∷ []) [] →
+      SoFar (after_deads m ps ns) (deads_change m ps ns) ns S xs T' cs'
   unfolding after_deads deads_change
-  deads_more i T T' c c' x b at so t e cs n = record {
-    few = let f = so.few in omega arith;
-    table = so.table ∙ ap (λ z. after_deads m ps ns z T) (drop_here ns i x at) ∙ ap (after_deads m ps ns (drop (i + 1) ns)) (sym t);
-    cells = so.cells ∙ ap (λ z. changed_cells c ++ deads_change m ps ns z T) (drop_here ns i x at)
-        ∙ ap (λ z. changed_cells c ++ (cond (changed m T z x) (x ∷ []) [] ++ deads_change m ps ns (drop (i + 1) ns) z)) (sym t)
-        ∙ ap (λ z. changed_cells c ++ (cond z (x ∷ []) [] ++ deads_change m ps ns (drop (i + 1) ns) T')) (sym e)
-        ∙ sym (append_assoc (changed_cells c) (cond b (x ∷ []) []) (deads_change m ps ns (drop (i + 1) ns) T'))
-        ∙ ap (λ z. z ++ deads_change m ps ns (drop (i + 1) ns) T') (sym cs);
-  }
+  deads_more {T = T} so x xs g s there T' b cs' is h t i j e k =
+      let made = made_dead x T g s h t i j in
+      so_far_more so x xs T' (cond b (x ∷ []) []) cs' is (ap (after_deads m ps ns xs) (sym made))
+      (ap (λ z. cond (changed m T z x) (x ∷ []) [] ++ deads_change m ps ns xs z) (sym made) ∙ ap (λ z. cond z (x ∷ []) [] ++ deads_change m ps ns xs T') (sym e)) (at_most_one b x) k
 
-  pub deads_all_table : (i : ℕ) (T : Table F) (c : Changed) → None ≡ slice_get ns i → DeadsSoFar m ps ns S i T c → T ≡ after_deads m ps ns ns S
-  unfolding after_deads
-  deads_all_table i T c e so = sym (so.table ∙ ap (λ z. after_deads m ps ns z T) (drop-end ns i e))
-
-  pub deads_all_cells : (i : ℕ) (T : Table F) (c : Changed) → None ≡ slice_get ns i → DeadsSoFar m ps ns S i T c → changed_cells c ≡ deads_change m ps ns ns S
-  unfolding deads_change
-  deads_all_cells i T c e so = sym (so.cells ∙ ap (λ z. changed_cells c ++ deads_change m ps ns z T) (drop-end ns i e) ∙ append_none (changed_cells c))
+  pub deads_all : {S T : Table F} {left cs : List ℕ} → SoFar (after_deads m ps ns) (deads_change m ps ns) ns S left T cs → left ≡ [] → (T ≡ after_deads m ps ns ns S) × (cs ≡ deads_change m ps ns ns S)
+  unfolding after_deads deads_change
+  deads_all {T = T} {cs = cs} so is = so_far-last so [] T [] cs is refl refl (sym (append-nil cs))
 
 -- ---- tells in their order
 
--- Of the tells that are to be made, the first i have been: from S to T, and these cells have changed.
-pub record TellsSoFar {F : Type 0} (m : Model F) (ps : Premises) (ts : List Tell) (S : Table F) (i : ℕ) (T : Table F) (c : Changed) : Type 0 where
-  pub few : c.count ≤ i
-  pub table : after_tells m ps ts S ≡ after_tells m ps (drop i ts) T
-  pub cells : tells_change m ps ts S ≡ changed_cells c ++ tells_change m ps (drop i ts) T
-
-module _ {F : Type 0} (m : Model F) (ps : Premises) (ts : List Tell) (S : Table F) where
-  pub tells_none : (c : Changed) → changed_cells c ≡ [] → c.count ≤ 0 → TellsSoFar m ps ts S 0 S c
-  tells_none c e f = record { few = f; table = refl; cells = sym (ap (λ z. z ++ tells_change m ps ts S) e) }
-
-  module _ (i : ℕ) (T T' : Table F) (c c' : Changed) (t : Tell) (b : Bool) (at : Some t ≡ slice_get ts i) (so : TellsSoFar m ps ts S i T c) (made : T' ≡ after_tell m ps t T) (e : b ≡ changed m T T' t.target)
-      (cs : changed_cells c' ≡ changed_cells c ++ cond b (t.target ∷ []) []) where
-    abbrev us : List Tell
-    us = drop (i + 1) ts
-
+module _ {F : Type 0} (m : Model F) (ps : Premises) (ts : List Tell) {S T : Table F} {left : List Tell} {cs : List ℕ} (so : SoFar (after_tells m ps) (tells_change m ps) ts S left T cs) where
+  module _ (t : Tell) (us : List Tell) (T' : Table F) (b : Bool) (cs' : List ℕ) (is : left ≡ t ∷ us) (made : T' ≡ after_tell m ps t T) (e : b ≡ changed m T T' t.target) (g : cs' ≡ cs ++ cond b (t.target ∷ []) []) where
     -- The tables and the cells from here on, by whether the tell ended in a conflict.
-    here-table : after_tells m ps ts S ≡ cond (none m (T' t.target).fact) T' (after_tells m ps us T')
+    here-table : after_tells m ps (t ∷ us) T ≡ cond (none m (T' t.target).fact) T' (after_tells m ps us T')
     unfolding after_tells
-    here-table =
-        so.table ∙ ap (λ z. after_tells m ps z T) (drop_here ts i t at)
-        ∙ ap (λ (z : Table F). cond (none m (z t.target).fact) z (after_tells m ps us z)) (sym made)
+    here-table = ap (λ (z : Table F). cond (none m (z t.target).fact) z (after_tells m ps us z)) (sym made)
 
-    here-cells : tells_change m ps ts S ≡ changed_cells c' ++ cond (none m (T' t.target).fact) [] (tells_change m ps us T')
+    here-cells : tells_change m ps (t ∷ us) T ≡ cond b (t.target ∷ []) [] ++ cond (none m (T' t.target).fact) [] (tells_change m ps us T')
     unfolding tells_change
     here-cells =
-        let x = t.target in
-        let more = cond (none m (T' x).fact) [] (tells_change m ps us T') in
-        so.cells ∙ ap (λ z. changed_cells c ++ tells_change m ps z T) (drop_here ts i t at)
-        ∙ ap (λ (z : Table F). changed_cells c ++ (cond (changed m T z x) (x ∷ []) [] ++ cond (none m (z x).fact) [] (tells_change m ps us z))) (sym made)
-        ∙ ap (λ z. changed_cells c ++ (cond z (x ∷ []) [] ++ more)) (sym e)
-        ∙ sym (append_assoc (changed_cells c) (cond b (x ∷ []) []) more)
-        ∙ ap (λ z. z ++ more) (sym cs)
+        ap (λ (z : Table F). cond (changed m T z t.target) (t.target ∷ []) [] ++ cond (none m (z t.target).fact) [] (tells_change m ps us z)) (sym made)
+        ∙ ap (λ z. cond z (t.target ∷ []) [] ++ cond (none m (T' t.target).fact) [] (tells_change m ps us T')) (sym e)
 
-    pub tells_more : c'.count ≤ c.count + 1 → false ≡ none m (T' t.target).fact → TellsSoFar m ps ts S (i + 1) T' c'
-    tells_more n h = record {
-      few = let f = so.few in omega arith;
-      table = here-table ∙ cond-false (none m (T' t.target).fact) T' (after_tells m ps us T') (sym h);
-      cells = here-cells ∙ ap (λ z. changed_cells c' ++ z) (cond-false (none m (T' t.target).fact) [] (tells_change m ps us T') (sym h));
-    }
+    pub tells_more : false ≡ none m (T' t.target).fact → SoFar (after_tells m ps) (tells_change m ps) ts S us T' cs'
+    tells_more h =
+        so_far_more so t us T' (cond b (t.target ∷ []) []) cs' is (here-table ∙ cond-false _ T' (after_tells m ps us T') (sym h))
+        (here-cells ∙ ap (λ z. cond b (t.target ∷ []) [] ++ z) (cond-false _ [] (tells_change m ps us T') (sym h))) (at_most_one b t.target) g
 
     -- A tell that ends in a conflict is the last.
-    pub tells_stop_table : true ≡ none m (T' t.target).fact → T' ≡ after_tells m ps ts S
-    tells_stop_table h = sym (here-table ∙ cond-true (none m (T' t.target).fact) T' (after_tells m ps us T') (sym h))
+    pub tells_stop : true ≡ none m (T' t.target).fact → (T' ≡ after_tells m ps ts S) × (cs' ≡ tells_change m ps ts S)
+    tells_stop h =
+        so_far-last so (t ∷ us) T' (cond b (t.target ∷ []) []) cs' is (here-table ∙ cond-true _ T' (after_tells m ps us T') (sym h))
+        (here-cells ∙ ap (λ z. cond b (t.target ∷ []) [] ++ z) (cond-true _ [] (tells_change m ps us T') (sym h)) ∙ append-nil (cond b (t.target ∷ []) [])) g
 
-    pub tells_stop_cells : true ≡ none m (T' t.target).fact → changed_cells c' ≡ tells_change m ps ts S
-    tells_stop_cells h =
-        sym (here-cells ∙ ap (λ z. changed_cells c' ++ z) (cond-true (none m (T' t.target).fact) [] (tells_change m ps us T') (sym h)) ∙ append_none (changed_cells c'))
-
-  pub tells_all_table : (i : ℕ) (T : Table F) (c : Changed) → None ≡ slice_get ts i → TellsSoFar m ps ts S i T c → T ≡ after_tells m ps ts S
-  unfolding after_tells
-  tells_all_table i T c e so = sym (so.table ∙ ap (λ z. after_tells m ps z T) (drop-end ts i e))
-
-  pub tells_all_cells : (i : ℕ) (T : Table F) (c : Changed) → None ≡ slice_get ts i → TellsSoFar m ps ts S i T c → changed_cells c ≡ tells_change m ps ts S
-  unfolding tells_change
-  tells_all_cells i T c e so = sym (so.cells ∙ ap (λ z. changed_cells c ++ tells_change m ps z T) (drop-end ts i e) ∙ append_none (changed_cells c))
-
--- ---- one cell told that no number is allowed
-
-pub make_dead : {F : Type 0} (m : Model F) (ps : Premises) (ns : List ℕ) (x : ℕ) (T : Table F) (g : F) (s : Reasons) {b : Bool} {T' : Table F} → b ≡ true → T' ≡ cond b (after_told m x g s T) T → g ≡ dead m → s ≡ together (premises_only ps) (reasons_of T ns) → T' ≡ after_dead m ps ns x T
-unfolding after_dead
-make_dead m ps ns x T g s there e i j =
-    e ∙ cond-true _ (after_told m x g s T) T there ∙ ap (λ z. after_told m x z s T) i ∙ ap (λ z. after_told m x (dead m) z T) j
+  pub tells_all : left ≡ [] → (T ≡ after_tells m ps ts S) × (cs ≡ tells_change m ps ts S)
+  unfolding after_tells tells_change
+  tells_all is = so_far-last so [] T [] cs is refl refl (sym (append-nil cs))
 
 -- ---- firing
 

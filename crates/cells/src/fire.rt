@@ -1,21 +1,21 @@
 // Firing a constraint over a lent table.
 ghost use Rattle.std.specs.Prelude.{◌≡◌, ◌<◌, true, length};
+ghost use Rattle.facts.specs.Derived.{none};
 ghost use Rattle.plan.specs.Forms.{named};
 ghost use Rattle.plan.specs.Known.{known};
 ghost use Rattle.plan.specs.Placements.{owned_by};
 ghost use Rattle.forms.specs.Tells.{tells};
-ghost use Rattle.telling.specs.Tables.{facts, changed};
-ghost use Rattle.telling.specs.Firing.{any_in_conflict, after_tells, after_dead, after_deads, tells_change, deads_change, fired};
-ghost use Rattle.cells.specs.Meaning.{table_of, Inside};
+ghost use Rattle.telling.specs.Tables.{facts, reasons_of};
+ghost use Rattle.telling.specs.Firing.{any_in_conflict, after_tells, after_deads, tells_change, deads_change};
+ghost use Rattle.cells.specs.Meaning.{tags_of, table_of, Inside};
 ghost use Rattle.cells.specs.Changes.{changed_cells, Fired};
 
 use crate::cell::Cell;
 use crate::changed::Changed;
-use crate::reads::{conflict_at, form_reasons};
 use crate::reasons::Reasons;
 use crate::tell::{make, tell};
 use facts::kind::Kind;
-use forms::tells::{named_at, tell_at};
+use forms::tells::{named, tells};
 use plan::constraint::{Constraint, Form};
 use plan::plans::is_known;
 use statements::numbers::{BOTTOM, TOP};
@@ -29,44 +29,47 @@ pub fn can_fire(k: Constraint, n: usize) -> bool
     is_known(k, n, 32)
 }
 
+// Whether cell x is in conflict.
+fn conflict_at<K: Kind>(table: &[Cell<K>], x: usize) -> bool
+    requires { x < length table.now }
+    ensures { result ≡ none K.model (table_of K.model table.now x).fact }
+{
+    table[x].in_conflict()
+}
+
 // Whether a cell that the form names is in conflict.
 fn has_conflict<K: Kind>(table: &[Cell<K>], form: Form) -> bool
     requires { Inside (length table.now) (named form) }
     ensures { result ≡ any_in_conflict K.model (facts (table_of K.model table.now)) (named form) }
 {
-    let mut i = 0;
-    while let Some(x) = named_at(form, i) {
-        if conflict_at(table, x) {
-            return true;
-        }
-        i += 1;
-    }
-    false
+    named(form).any(|x| conflict_at(table, x))
 }
 
-// Tells cell x that no number is allowed, for the constraint's owner and the reasons of every cell that it names.
-fn make_dead<K: Kind>(table: &mut [Cell<K>], k: Constraint, x: usize) -> bool
-    requires known { known (length table.old) 32 k ≡ true }
-    requires inside { x < length table.old }
-    ensures table { table_of K.model table.new ≡ after_dead K.model (owned_by k.owner) (named k.form) x (table_of K.model table.old) }
-    ensures change { result ≡ changed K.model (table_of K.model table.old) (table_of K.model table.new) x }
+// The reasons of the cells that the form names.
+fn form_reasons<K: Kind>(table: &[Cell<K>], form: Form) -> Reasons
+    requires { Inside (length table.now) (named form) }
+    ensures { tags_of result ≡ reasons_of (table_of K.model table.now) (named form) }
 {
-    let s = Reasons::owned(k.owner).union(form_reasons(table, k.form));
-    tell(table, x, K::state(Statement::Between(TOP, BOTTOM)), s)
+    let mut all = Reasons::none();
+    for x in named(form) {
+        all = all.union(table[x].reasons);
+    }
+    all
 }
 
-// Tells each cell that the constraint names that no number is allowed.
+// Tells each cell that the constraint names that no number is allowed, for the constraint's owner and the reasons of every
+// cell that it names.
 fn make_deads<K: Kind>(table: &mut [Cell<K>], k: Constraint) -> Changed
     requires { known (length table.old) 32 k ≡ true }
     ensures table { table_of K.model table.new ≡ after_deads K.model (owned_by k.owner) (named k.form) (named k.form) (table_of K.model table.old) }
     ensures cells { changed_cells result ≡ deads_change K.model (owned_by k.owner) (named k.form) (named k.form) (table_of K.model table.old) }
 {
     let mut out = Changed::none();
-    let mut i = 0;
-    while let Some(x) = named_at(k.form, i) {
-        let changed = make_dead(table, k, x);
-        out = out.with(x, changed);
-        i += 1;
+    for x in named(k.form) {
+        let s = Reasons::owned(k.owner).union(form_reasons(table, k.form));
+        if tell(table, x, K::state(Statement::Between(TOP, BOTTOM)), s) {
+            out.push(x);
+        }
     }
     out
 }
@@ -78,15 +81,13 @@ fn make_tells<K: Kind>(table: &mut [Cell<K>], k: Constraint) -> Changed
     ensures cells { changed_cells result ≡ tells_change K.model (owned_by k.owner) (tells k.form) (table_of K.model table.old) }
 {
     let mut out = Changed::none();
-    let mut i = 0;
-    while let Some(t) = tell_at(k.form, i) {
-        let changed = make(table, k.owner, t);
-        out = out.with(t.target, changed);
-        let conflict = conflict_at(table, t.target);
-        if conflict {
-            return out;
+    for t in tells(k.form) {
+        if make(table, k.owner, t) {
+            out.push(t.target);
         }
-        i += 1;
+        if conflict_at(table, t.target) {
+            break;
+        }
     }
     out
 }

@@ -3,7 +3,6 @@
 
 pub mod cell;
 pub mod changed;
-pub mod changes;
 pub mod fire;
 mod reads;
 pub mod reasons;

@@ -1,153 +1,116 @@
 // What a tell reads of a lent table.
 ghost use Rattle.std.specs.Prelude.{◌≡◌, ◌<◌, length};
 ghost use Rattle.statements.specs.Numbers.{InU};
-ghost use Rattle.facts.specs.Derived.{low, high, none};
-ghost use Rattle.plan.specs.Forms.{named};
-ghost use Rattle.forms.specs.Tells.{saying_reads, reads, holds as holdsBy, said as saidBy, up, down};
-ghost use Rattle.telling.specs.Reasons.{together};
+ghost use Rattle.facts.specs.Derived.{low, high};
+ghost use Rattle.forms.specs.Tells.{saying_reads, reads, said as saidBy, up, down};
 ghost use Rattle.telling.specs.Tables.{facts, reasons_of};
-ghost use Rattle.telling.specs.Telling.{lows, highs};
-ghost use Rattle.cells.specs.Meaning.{tags_of, table_of, Inside, FitCondition, FitSaying};
+ghost use Rattle.telling.specs.Telling.{lows, highs, is_made};
+ghost use Rattle.cells.specs.Meaning.{tags_of, table_of, FitTell};
+ghost use Rattle.cells.specs.Fits.{FitTell-prop};
 
 use crate::cell::Cell;
 use crate::reasons::Reasons;
 use facts::kind::Kind;
 use facts::tidy::{highest, lowest};
 use forms::tell::{Condition, Saying, Tell};
-use plan::constraint::Form;
 use statements::numbers::{BOTTOM, TOP};
 use statements::statement::Statement;
-
-// The lowest of cell x.
-fn low_at<K: Kind>(table: &[Cell<K>], x: usize) -> i64
-    requires { x < length table.now }
-    ensures is { result ≡ low K.model (table_of K.model table.now x).fact }
-    ensures within { InU result }
-{
-    lowest(table[x].fact)
-}
-
-// The highest of cell x.
-fn high_at<K: Kind>(table: &[Cell<K>], x: usize) -> i64
-    requires { x < length table.now }
-    ensures is { result ≡ high K.model (table_of K.model table.now x).fact }
-    ensures within { InU result }
-{
-    highest(table[x].fact)
-}
-
-// Whether cell x is in conflict.
-pub(crate) fn conflict_at<K: Kind>(table: &[Cell<K>], x: usize) -> bool
-    requires { x < length table.now }
-    ensures { result ≡ none K.model (table_of K.model table.now x).fact }
-{
-    table[x].in_conflict()
-}
-
-// The reasons of cell x together with others.
-fn with_reasons<K: Kind>(table: &[Cell<K>], x: usize, rest: Reasons) -> Reasons
-    requires { x < length table.now }
-    ensures { tags_of result ≡ together (table_of K.model table.now x).reasons (tags_of rest) }
-{
-    table[x].reasons.union(rest)
-}
-
-// The reasons of the cells that a saying reads.
-fn saying_reasons<K: Kind>(table: &[Cell<K>], saying: Saying) -> Reasons
-    requires { FitSaying (length table.now) saying }
-    ensures { tags_of result ≡ reasons_of (table_of K.model table.now) (saying_reads saying) }
-{
-    match saying {
-        Saying::Stated(_) => Reasons::none(),
-        Saying::Cut(x, _) => with_reasons(table, x, Reasons::none()),
-        Saying::Plus(x, y) => with_reasons(table, x, with_reasons(table, y, Reasons::none())),
-        Saying::Minus(x, y) => with_reasons(table, x, with_reasons(table, y, Reasons::none())),
-        Saying::From(x, _) => with_reasons(table, x, Reasons::none()),
-        Saying::UpTo(x, _) => with_reasons(table, x, Reasons::none()),
-    }
-}
-
-// The reasons of the cells that a tell or its condition reads.
-pub(crate) fn tell_reasons<K: Kind>(table: &[Cell<K>], t: Tell) -> Reasons
-    requires condition { FitCondition (length table.now) t.condition }
-    requires saying { FitSaying (length table.now) t.saying }
-    ensures { tags_of result ≡ reasons_of (table_of K.model table.now) (reads t) }
-{
-    let rest = saying_reasons(table, t.saying);
-    match t.condition {
-        Condition::Always => rest,
-        Condition::Above(a, _, b) => with_reasons(table, a, with_reasons(table, b, rest)),
-    }
-}
-
-// The reasons of the cells that a form names.
-pub(crate) fn form_reasons<K: Kind>(table: &[Cell<K>], form: Form) -> Reasons
-    requires { Inside (length table.now) (named form) }
-    ensures { tags_of result ≡ reasons_of (table_of K.model table.now) (named form) }
-{
-    match form {
-        Form::State(c, _) => with_reasons(table, c, Reasons::none()),
-        Form::Sum(a, b, c) => with_reasons(
-            table,
-            a,
-            with_reasons(table, b, with_reasons(table, c, Reasons::none())),
-        ),
-        Form::Gap(a, _, b) => with_reasons(table, a, with_reasons(table, b, Reasons::none())),
-        Form::Apart(a, _, b, _) => with_reasons(table, a, with_reasons(table, b, Reasons::none())),
-    }
-}
-
-// Whether a condition holds.
-pub(crate) fn holds<K: Kind>(table: &[Cell<K>], condition: Condition) -> bool
-    requires { FitCondition (length table.now) condition }
-    ensures { result ≡ holdsBy (lows K.model (facts (table_of K.model table.now))) (highs K.model (facts (table_of K.model table.now))) condition }
-{
-    match condition {
-        Condition::Always => true,
-        Condition::Above(a, d, b) => high_at(table, b) < low_at(table, a) + d,
-    }
-}
 
 // The least number of s from n up, M + 1 where there is none.
 fn least(s: Statement, n: i64) -> i64
     ensures { result ≡ up s n }
 {
-    match s.least_from(n) {
-        Some(v) => v,
-        None => TOP + 1,
-    }
+    s.least_from(n).unwrap_or(TOP + 1)
 }
 
 // The greatest number of s from n down, -M - 1 where there is none.
 fn greatest(s: Statement, n: i64) -> i64
     ensures { result ≡ down s n }
 {
-    match s.greatest_to(n) {
-        Some(v) => v,
-        None => BOTTOM - 1,
-    }
+    s.greatest_to(n).unwrap_or(BOTTOM - 1)
 }
 
-// What is said.
-pub(crate) fn said<K: Kind>(table: &[Cell<K>], saying: Saying) -> Statement
-    requires { FitSaying (length table.now) saying }
-    ensures { result ≡ saidBy (lows K.model (facts (table_of K.model table.now))) (highs K.model (facts (table_of K.model table.now))) saying }
-{
-    match saying {
-        Saying::Stated(s) => s,
-        Saying::Cut(x, s) => Statement::Between(
-            least(s, low_at(table, x)),
-            greatest(s, high_at(table, x)),
-        ),
-        Saying::Plus(x, y) => Statement::Between(
-            low_at(table, x) + low_at(table, y),
-            high_at(table, x) + high_at(table, y),
-        ),
-        Saying::Minus(x, y) => Statement::Between(
-            low_at(table, x) - high_at(table, y),
-            high_at(table, x) - low_at(table, y),
-        ),
-        Saying::From(x, d) => Statement::Between(low_at(table, x) + d, TOP),
-        Saying::UpTo(x, d) => Statement::Between(BOTTOM, high_at(table, x) - d),
+// A tell, and a lent table that has the cells that it reads.
+#[derive(Drop)]
+pub(crate) struct Reading<'t, K> {
+    pub(crate) table: &'t [Cell<K>],
+    pub(crate) tell: Tell,
+    ghost fits: { FitTell (length table.now) tell } by { FitTell-prop (length table.now) tell },
+}
+
+impl<K: Kind> Reading<'_, K> {
+    // The lowest of cell x.
+    fn low(&self, x: usize) -> i64
+        requires { x < length self.now.table.now }
+        ensures is { result ≡ low K.model (table_of K.model self.now.table.now x).fact }
+        ensures within { InU result }
+    {
+        lowest(self.table[x].fact)
+    }
+
+    // The highest of cell x.
+    fn high(&self, x: usize) -> i64
+        requires { x < length self.now.table.now }
+        ensures is { result ≡ high K.model (table_of K.model self.now.table.now x).fact }
+        ensures within { InU result }
+    {
+        highest(self.table[x].fact)
+    }
+
+    // Whether the tell's condition holds.
+    pub(crate) fn is_made(&self) -> bool
+        ensures { result ≡ is_made K.model (facts (table_of K.model self.now.table.now)) self.now.tell }
+    {
+        match self.tell.condition {
+            Condition::Always => true,
+            Condition::Above(a, d, b) => self.high(b) < self.low(a) + d,
+        }
+    }
+
+    // What the tell says.
+    pub(crate) fn said(&self) -> Statement
+        ensures { result ≡ saidBy (lows K.model (facts (table_of K.model self.now.table.now))) (highs K.model (facts (table_of K.model self.now.table.now))) self.now.tell.saying }
+    {
+        match self.tell.saying {
+            Saying::Stated(s) => s,
+            Saying::Cut(x, s) => {
+                Statement::Between(least(s, self.low(x)), greatest(s, self.high(x)))
+            }
+            Saying::Plus(x, y) => {
+                Statement::Between(self.low(x) + self.low(y), self.high(x) + self.high(y))
+            }
+            Saying::Minus(x, y) => {
+                Statement::Between(self.low(x) - self.high(y), self.high(x) - self.low(y))
+            }
+            Saying::From(x, d) => Statement::Between(self.low(x) + d, TOP),
+            Saying::UpTo(x, d) => Statement::Between(BOTTOM, self.high(x) - d),
+        }
+    }
+
+    // The reasons of the cells that the saying reads.
+    fn saying_reasons(&self) -> Reasons
+        ensures { tags_of result ≡ reasons_of (table_of K.model self.now.table.now) (saying_reads self.now.tell.saying) }
+    {
+        match self.tell.saying {
+            Saying::Stated(_) => Reasons::none(),
+            Saying::Cut(x, _) | Saying::From(x, _) | Saying::UpTo(x, _) => self.table[x].reasons,
+            Saying::Plus(x, y) | Saying::Minus(x, y) => {
+                self.table[x].reasons.union(self.table[y].reasons)
+            }
+        }
+    }
+
+    // The reasons of the cells that the tell or its condition reads.
+    pub(crate) fn reasons(&self) -> Reasons
+        ensures { tags_of result ≡ reasons_of (table_of K.model self.now.table.now) (reads self.now.tell) }
+    {
+        let said = self.saying_reasons();
+        match self.tell.condition {
+            Condition::Always => said,
+            Condition::Above(a, _, b) => {
+                let rest = self.table[b].reasons.union(said);
+                self.table[a].reasons.union(rest)
+            }
+        }
     }
 }

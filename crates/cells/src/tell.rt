@@ -7,7 +7,7 @@ ghost use Rattle.telling.specs.Telling.{after_told, after_tell};
 ghost use Rattle.cells.specs.Meaning.{tags_of, table_of, FitTell};
 
 use crate::cell::Cell;
-use crate::reads::{holds, said, tell_reasons};
+use crate::reads::Reading;
 use crate::reasons::Reasons;
 use facts::kind::Kind;
 use forms::tell::Tell;
@@ -34,10 +34,11 @@ pub(crate) fn make<K: Kind>(table: &mut [Cell<K>], owner: Option<usize>, t: Tell
     ensures table { table_of K.model table.new ≡ after_tell K.model (owned_by owner) t (table_of K.model table.old) }
     ensures change { result ≡ changed K.model (table_of K.model table.old) (table_of K.model table.new) t.target }
 {
-    if !holds(table, t.condition) {
+    let reading = Reading { table, tell: t };
+    if !reading.is_made() {
         return false;
     }
-    let s = Reasons::owned(owner).union(tell_reasons(table, t));
-    let g = K::state(said(table, t.saying));
+    let s = Reasons::owned(owner).union(reading.reasons());
+    let g = K::state(reading.said());
     tell(table, t.target, g, s)
 }

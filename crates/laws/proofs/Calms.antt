@@ -2,7 +2,6 @@
 use Rattle.std.proofs.Common.{◌≡◌, ℕ, Bool, true, false, not, ◌&&◌, eqb, Some, Option, sym, refl, ap, ◌∙◌, subst}
 use mathlib.Core.Path.{fun_ext}
 use Rattle.std.specs.List.{slice_get, AllByRecursion}
-use Rattle.std.proofs.ByRecursion.{All-weaker}
 use Rattle.std.proofs.lemmas.Bool.{cond-true, eqb-true, or_parts, not-false}
 use Rattle.statements.proofs.Tests.{test_clash, test_cases}
 use Rattle.facts.specs.Model.{Model}
@@ -14,7 +13,7 @@ use Rattle.sets.specs.Members.{Members, Nobody, among}
 use Rattle.telling.specs.Tables.{Cell, Table, facts, bare, any, changed}
 use Rattle.telling.specs.Firing.{fired}
 use Rattle.telling.specs.Stable.{Stable, Tidy, Still}
-use Rattle.telling.proofs.Cases.{any_none, all_among}
+use Rattle.telling.proofs.Cases.{any_none, all_among, all_weaker}
 use Rattle.telling.proofs.Fires.{Calm, fired-still, fired_calm}
 use Rattle.telling.proofs.Locals.{calm_local}
 use Rattle.telling.proofs.Changes.{only-fired}
@@ -48,7 +47,7 @@ module _ {F : Type 0} (m : Model F) (l : Laws m) where
     woken_calmed force cells w T T' same calm j k at inf e =
         let r = woken_no force cells w j k at inf e in
         calm_local m (facts T) (facts T') k.form
-        (All-weaker (λ x. cells x ≡ false) (λ x. (T x).fact ≡ (T' x).fact) same (named k.form) (any_none cells (named k.form) r.1))
+        (all_weaker (λ x. cells x ≡ false) (λ x. (T x).fact ≡ (T' x).fact) same (named k.form) (any_none cells (named k.form) r.1))
         (calm j k at inf r.0)
 
     without_other : (j i : ℕ) (w : Members) → eqb i j ≡ false → without j w i ≡ w i
@@ -62,7 +61,7 @@ module _ {F : Type 0} (m : Model F) (l : Laws m) where
         let w = without j b.waits in
         let r = woken_no force (changed m T T') w i k at inf e in
         let near : AllByRecursion (λ x. (T x).fact ≡ (T' x).fact) (named k.form) =
-        All-weaker (λ x. changed m T T' x ≡ false) (λ x. (T x).fact ≡ (T' x).fact) (unchanged_fact T T') (named k.form) (any_none (changed m T T') (named k.form) r.1) in
+        all_weaker (λ x. changed m T T' x ≡ false) (λ x. (T x).fact ≡ (T' x).fact) (unchanged_fact T T') (named k.form) (any_none (changed m T T') (named k.form) r.1) in
         test_cases {P = Calm m (facts T') k.form} (eqb i j)
         (λ ij.
         let T'-is : T' ≡ fired m k T =

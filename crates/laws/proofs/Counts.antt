@@ -1,7 +1,6 @@
 -- Each step makes the number waiting, plus the number of constraints times the table's size, smaller.
 use Rattle.std.proofs.Common.{◌≡◌, ℕ, suc, ◌+◌, ◌*◌, ◌<◌, ◌≤◌, true, false, not, ◌&&◌, eqb, length, Some, None, Option, refl, ap, ⊎_elim, mul-le-mul_left, arith}
 use Rattle.std.specs.List.{slice_get}
-use Rattle.std.proofs.ByRecursion.{All-weaker}
 use Rattle.std.proofs.lemmas.Bool.{cond_both, or_cases, and_parts, eq-eqb}
 use Rattle.statements.proofs.Tests.{test_clash, test_cases}
 use Rattle.facts.specs.Model.{Model}
@@ -12,7 +11,7 @@ use Rattle.plan.specs.declared.constraint.Constraint.{Constraint}
 use Rattle.sets.specs.Members.{Members, count}
 use Rattle.telling.specs.Tables.{Table, facts, any, changed, table_size}
 use Rattle.telling.specs.Firing.{fired}
-use Rattle.telling.proofs.Cases.{any_clash}
+use Rattle.telling.proofs.Cases.{any_clash, all_weaker}
 use Rattle.telling.proofs.Fires.{Below, below_refl, fired_below}
 use Rattle.telling.proofs.Sizes.{below_size_le, below_size_lt}
 use Rattle.calls.specs.Networks.{Net, Planned, in_force}
@@ -87,6 +86,6 @@ module _ {F : Type 0} (m : Model F) (l : Laws m) (N : Net) where
       ⊎_elim (λ p. p)
       (λ p. concerns-some N force ch (slice_get N.constraints i) p
       (λ k at hit. any_clash ch (named k.form)
-      (All-weaker (λ x. x < N.cells) (λ x. ch x ≡ false) (λ x lx. any_below_no N.cells ch e x lx) (named k.form) (named_below N ok i k at)) hit))
+      (all_weaker (λ x. x < N.cells) (λ x. ch x ≡ false) (λ x lx. any_below_no N.cells ch e x lx) (named k.form) (named_below N ok i k at)) hit))
       (or_cases (w₁ i) (concerns force ch (slice_get N.constraints i)) h)) in
       falls_little C (count w 512) (count w' 512) S S' (below_size_le m l N.cells T' T small) (omega arith))

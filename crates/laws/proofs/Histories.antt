@@ -1,7 +1,6 @@
 -- Over every history, what each answer claims holds.
 use Rattle.std.proofs.Common.{◌≡◌, ℕ, ◌≤◌, true, false, List, [], ◌∷◌, length, Some, None, Option, sym, refl, ap, ◌∙◌, subst, inl, inr, arith}
 use Rattle.std.specs.List.{AllByRecursion}
-use Rattle.std.proofs.ByRecursion.{All-weaker}
 use Rattle.std.proofs.lemmas.Bool.{cond-true, cond-false, not-false}
 use Rattle.statements.proofs.Tests.{test_clash, test_cases}
 use Rattle.facts.specs.Model.{Model}
@@ -10,6 +9,7 @@ use Rattle.plan.specs.Placements.{Placed, Premises, InForce, Meets}
 use Rattle.sets.specs.Members.{Within, count}
 use Rattle.telling.specs.Tables.{upd, facts}
 use Rattle.telling.specs.Stable.{Stable, Still}
+use Rattle.telling.proofs.Cases.{all_weaker}
 use Rattle.calls.specs.Networks.{Net, Planned, NoneMeets}
 use Rattle.calls.specs.Boards.{Board}
 use Rattle.calls.specs.Running.{Outcome, quiet, conflict, spent}
@@ -61,7 +61,7 @@ module _ {F : Type 0} (m : Model F) (l : Laws m) (N : Net) (ok : Planned N) wher
     pub searching : (t : Trail) → s.trail ≡ Some t → Sound m l N ok s.force (record { board = s.board; trail = t })
 
   known_later : (e : Event F) (es : List (Event F)) (ks : List Premises) → AllByRecursion (Known es) ks → AllByRecursion (Known (e ∷ es)) ks
-  known_later e es ks h = All-weaker (Known es) (Known (e ∷ es)) (λ r k. (k.0, inr k.1)) ks h
+  known_later e es ks h = all_weaker (Known es) (Known (e ∷ es)) (λ r k. (k.0, inr k.1)) ks h
 
   -- ---- what is claimed of an event
 

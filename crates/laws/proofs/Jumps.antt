@@ -1,7 +1,7 @@
 -- Jumps and guesses keep what holds of a search.
 use Rattle.std.proofs.Common.{◌≡◌, ℕ, ◌<◌, true, false, not, ◌&&◌, eqb, leb, ◌∷◌, length, ℤ, pos, ◌+ℤ◌, ◌≤ℤ◌, sym, ap, ◌∙◌, subst, ⊎_elim, arith}
 use Rattle.std.specs.List.{AllByRecursion}
-use Rattle.std.proofs.ByRecursion.{All-weaker, All-push}
+use Rattle.std.proofs.ByRecursion.{All-push}
 use Rattle.std.proofs.lemmas.Int.{ints, by_lt_z}
 use Rattle.std.proofs.lemmas.Bool.{cond_both, cond-false, cases_lt, cases_eq, and_parts, and_from, not-true, le-leb, eqb-true, eq-eqb, ltb-true, lt-ltb}
 use Rattle.statements.proofs.Tests.{test_clash, test_cases}
@@ -14,6 +14,7 @@ use Rattle.sets.specs.Members.{Members}
 use Rattle.telling.specs.Reasons.{premise, guess, Reasons, Among}
 use Rattle.telling.specs.Tables.{Cell, Table, start_cell, changed}
 use Rattle.telling.specs.Stable.{LiesBy}
+use Rattle.telling.proofs.Cases.{all_weaker}
 use Rattle.telling.proofs.Fits.{Fit, Fits, start_fits}
 use Rattle.calls.specs.Networks.{Net}
 use Rattle.calls.specs.Boards.{woken, reset}
@@ -170,7 +171,7 @@ module _ {F : Type 0} (m : Model F) (l : Laws m) (N : Net) (Sort : Placement →
           right = record {
             few_guesses = omega arith;
             few_entries = omega arith;
-            all_told = after_words-told m l N (words t') T₁ (All-weaker (TrueWord m l N Sort placed force t') (λ w. w.cell < N.cells) (λ w h. h.of_cell) (words t') ws);
+            all_told = after_words-told m l N (words t') T₁ (all_weaker (TrueWord m l N Sort placed force t') (λ w. w.cell < N.cells) (λ w h. h.of_cell) (words t') ws);
           };
         }
 
@@ -207,7 +208,7 @@ module _ {F : Type 0} (m : Model F) (l : Laws m) (N : Net) (Sort : Placement →
           few_entries = omega arith;
           all_told = λ _.
               All-push (IsTold m N T') (words t) w
-              (All-weaker (IsTold m N T) (IsTold m N T') (is_told_below m l N T T' (after_word_below m l N w T)) (words t) (s.right.all_told clean))
+              (all_weaker (IsTold m N T) (IsTold m N T') (is_told_below m l N T T' (after_word_below m l N w T)) (words t) (s.right.all_told clean))
               (after_word-told m l N w T);
         };
       }

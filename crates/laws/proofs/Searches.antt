@@ -1,7 +1,6 @@
 -- A move and a seek: what holds after them, and what they answer.
 use Rattle.std.proofs.Common.{ℕ, ◌<◌, List}
 use Rattle.std.specs.List.{slice_get, AllByRecursion}
-use Rattle.std.proofs.ByRecursion.{All-weaker}
 use Rattle.facts.specs.Model.{Model}
 use Rattle.facts.specs.Laws.{Laws, Exact}
 use Rattle.facts.specs.Derived.{low}
@@ -11,6 +10,7 @@ use Rattle.plan.specs.Placements.{Placed, Premises, Meets}
 use Rattle.sets.specs.Members.{Within}
 use Rattle.telling.specs.Tables.{facts, bare}
 use Rattle.telling.specs.Stable.{One}
+use Rattle.telling.proofs.Cases.{all_weaker}
 use Rattle.telling.proofs.Fires.{fired_calm}
 use Rattle.telling.proofs.Settles.{settles_right}
 use Rattle.calls.specs.Networks.{Net, Planned, NoneMeets}
@@ -50,7 +50,7 @@ module _ {F : Type 0} (m : Model F) (l : Laws m) (N : Net) (ok : Planned N) (for
   unfolding after_step
   step-told j b ws h =
       let T' = after_taken m N force (slice_get N.constraints j) b.table in
-      All-weaker (IsTold m N b.table) (IsTold m N T') (is_told_below m l N b.table T' (after_taken_below m l N force (slice_get N.constraints j) b.table)) ws h
+      all_weaker (IsTold m N b.table) (IsTold m N T') (is_told_below m l N b.table T' (after_taken_below m l N force (slice_get N.constraints j) b.table)) ws h
 
   pub move_right : {q : Search F} {v : Verdict F} → Move m N force q v → Sound q → RightVerdict q v
   move_right (dies q x low_x free) s =
@@ -70,7 +70,7 @@ module _ {F : Type 0} (m : Model F) (l : Laws m) (N : Net) (ok : Planned N) (for
     meets-from (λ x. low m (q.board.table x).fact) force N.constraints
         (λ j k at f.
         settles_right m l exact k (facts q.board.table)
-        (All-weaker (λ x. x < N.cells) (One m (facts q.board.table)) one (named k.form) (named_below N ok j k at))
+        (all_weaker (λ x. x < N.cells) (One m (facts q.board.table)) one (named k.form) (named_below N ok j k at))
         (fired_calm m l k (bare (facts q.board.table)) (s.live.calmed j k at (in_force_made force k f) (idle j)))),
   )
   move_right (crowds q c clean idle lt wide room) s = tt

@@ -2,6 +2,7 @@
 use Rattle.std.proofs.Common.{◌≡◌, ℕ, Bool, true, false, cond, not, ◌||◌, eqb, List, [], ◌∷◌, ◌++◌, sym, refl, ap, ◌∙◌, subst, ap₂, ⊎_elim}
 use mathlib.Core.Path.{fun_ext}
 use Rattle.std.specs.List.{AllByRecursion}
+use Rattle.std.proofs.Math.Bool.{or_assoc}
 use Rattle.std.proofs.lemmas.Bool.{cond_both, cond-false, cases_eq, eq-eqb, ne_eqb, or_left}
 use Rattle.statements.proofs.Tests.{test_clash, test_cases, test_no}
 use Rattle.facts.specs.Model.{Model, Tells}
@@ -27,11 +28,7 @@ use Rattle.telling.proofs.StableCover.{is_made_mono}
 among_append : (x : ℕ) (xs ys : List ℕ) → among x (xs ++ ys) ≡ (among x xs || among x ys)
 unfolding among
 among_append x [] ys = refl
-among_append x (y ∷ xs) ys = ap (λ b. eqb x y || b) (among_append x xs ys) ∙ or_assoc (eqb x y) (among x xs) (among x ys)
-  where
-    or_assoc : (a b c : Bool) → (a || (b || c)) ≡ ((a || b) || c)
-    or_assoc true b c = refl
-    or_assoc false b c = refl
+among_append x (y ∷ xs) ys = ap (λ b. eqb x y || b) (among_append x xs ys) ∙ sym (or_assoc (eqb x y) (among x xs) (among x ys))
 
 -- T' is T but for cell x.
 abbrev Elsewhere : {F : Type 0} → ℕ → Table F → Table F → Type 0
@@ -214,6 +211,10 @@ module _ {F : Type 0} (m : Model F) (l : Laws m) where
       cond-fact true c d = refl
       cond-fact false c d = refl
 
+  facts_pick : (b b' : Bool) (U U' T T' : Table F) → b ≡ b' → facts U ≡ facts U' → facts T ≡ facts T' → facts (cond b U T) ≡ facts (cond b' U' T')
+  facts_pick b true U U' T T' e p q = ap (λ z. facts (cond z U T)) e ∙ p
+  facts_pick b false U U' T T' e p q = ap (λ z. facts (cond z U T)) e ∙ q
+
   tell_alone : (ps ps' : Premises) (t : Tell) (T T' : Table F) → facts T ≡ facts T' → facts (after_tell m ps t T) ≡ facts (after_tell m ps' t T')
   unfolding after_tell
   tell_alone ps ps' t T T' e =
@@ -225,15 +226,7 @@ module _ {F : Type 0} (m : Model F) (l : Laws m) where
       let u : facts U ≡ facts U' =
       told_alone t.target (said_fact m (facts T) t) (tell_reasons m ps t T) (tell_reasons m ps' t T') T T' e
       ∙ ap (λ φ. facts (after_told m t.target (said_fact m φ t) (tell_reasons m ps' t T') T')) e in
-      ap (λ z. facts (cond z U T)) same ∙ facts-cond b' U U' T T' u e
-    where
-      facts-cond : (b : Bool) (U U' T T' : Table F) → facts U ≡ facts U' → facts T ≡ facts T' → facts (cond b U T) ≡ facts (cond b U' T')
-      facts-cond true U U' T T' p q = p
-      facts-cond false U U' T T' p q = q
-
-  facts_pick : (b b' : Bool) (U U' T T' : Table F) → b ≡ b' → facts U ≡ facts U' → facts T ≡ facts T' → facts (cond b U T) ≡ facts (cond b' U' T')
-  facts_pick b true U U' T T' e p q = ap (λ z. facts (cond z U T)) e ∙ p
-  facts_pick b false U U' T T' e p q = ap (λ z. facts (cond z U T)) e ∙ q
+      facts_pick b b' U U' T T' same u e
 
   tells_alone : (ps ps' : Premises) (ts : List Tell) (T T' : Table F) → facts T ≡ facts T' → facts (after_tells m ps ts T) ≡ facts (after_tells m ps' ts T')
   unfolding after_tells

@@ -2,7 +2,6 @@
 use Rattle.std.proofs.Common.{◌≡◌, ℕ, Bool, ◌||◌, List, [], ◌∷◌, ℤ, ◌+ℤ◌, ◌-ℤ◌, sym, refl, ap, ◌∙◌, ap₂, inl, inr, ⊎_elim}
 use lib.Signed.{lt_z}
 use Rattle.std.specs.List.{AllByRecursion}
-use Rattle.std.proofs.ByRecursion.{All-weaker}
 use Rattle.statements.specs.Numbers.{top, bottom}
 use Rattle.statements.specs.declared.statement.Statement.TheVariants.{Between}
 use Rattle.facts.specs.Model.{Model}
@@ -19,7 +18,7 @@ use Rattle.forms.specs.declared.tell.Tell.{Tell}
 use Rattle.telling.specs.Tables.{any}
 use Rattle.telling.specs.Telling.{lows, highs, said_fact}
 use Rattle.telling.specs.Firing.{any_in_conflict}
-use Rattle.telling.proofs.Cases.{all_left, all_right, all_both}
+use Rattle.telling.proofs.Cases.{all_left, all_right, all_both, all_weaker}
 use Rattle.telling.proofs.Fires.{CalmTell, Calm}
 
 -- Cell x lies between the same ends.
@@ -64,7 +63,7 @@ module _ {F : Type 0} (m : Model F) where
       let cs = condition_reads t.condition in
       let ss = saying_reads t.saying in
       let A = Alike (lows m φ) (highs m φ) (lows m ψ) (highs m ψ) in
-      let near : AllByRecursion A (reads t) = All-weaker (λ x. φ x ≡ ψ x) A (λ x e. (ap (low m) e, ap (high m) e)) (reads t) h.0 in
+      let near : AllByRecursion A (reads t) = all_weaker (λ x. φ x ≡ ψ x) A (λ x e. (ap (low m) e, ap (high m) e)) (reads t) h.0 in
       let made-is = holds_local (lows m φ) (highs m φ) (lows m ψ) (highs m ψ) t.condition (all_left A cs ss near) in
       let said-is : said_fact m φ t ≡ said_fact m ψ t = ap m.stated (said_local (lows m φ) (highs m φ) (lows m ψ) (highs m ψ) t.saying (all_right A cs ss near)) in
       ap (λ z. told m z (ψ t.target)) (sym said-is) ∙ ap (told m (said_fact m φ t)) (sym h.1) ∙ c (made-is ∙ made) ∙ h.1
@@ -73,7 +72,7 @@ module _ {F : Type 0} (m : Model F) where
   pub calm_local : (φ ψ : ℕ → F) (q : Form) → AllByRecursion (λ x. φ x ≡ ψ x) (named q) → Calm m φ q → Calm m ψ q
   calm_local φ ψ q h c =
       let same : any_in_conflict m φ (named q) ≡ any_in_conflict m ψ (named q) =
-      any_local (λ x. none m (φ x)) (λ x. none m (ψ x)) (named q) (All-weaker (λ x. φ x ≡ ψ x) (λ x. none m (φ x) ≡ none m (ψ x)) (λ x e. ap (none m) e) (named q) h) in
+      any_local (λ x. none m (φ x)) (λ x. none m (ψ x)) (named q) (all_weaker (λ x. φ x ≡ ψ x) (λ x. none m (φ x) ≡ none m (ψ x)) (λ x e. ap (none m) e) (named q) h) in
       ⊎_elim
       (λ d. inl (sym same ∙ d.0, all_both (λ x. φ x ≡ ψ x) (λ x. φ x ≡ dead m) (λ x. ψ x ≡ dead m) (λ x e f. sym e ∙ f) (named q) h d.1))
       (λ d. inr (

@@ -2,7 +2,6 @@
 use Rattle.std.proofs.Common.{◌≡◌, ℕ, true, false, List, ℤ, pos, ◌+ℤ◌, ◌-ℤ◌, ◌≤ℤ◌, ◌<ℤ◌, refl, ◌∙◌, arith}
 use lib.Signed.{lt_z}
 use Rattle.std.specs.List.{AllByRecursion}
-use Rattle.std.proofs.ByRecursion.{All-weaker}
 use Rattle.std.proofs.lemmas.Int.{ints, clamps}
 use Rattle.statements.specs.Between.{between}
 use Rattle.statements.specs.Numbers.{top, bottom, InU, raised, lowered}
@@ -26,7 +25,7 @@ use Rattle.forms.specs.declared.tell.Tell.{Tell}
 use Rattle.telling.specs.Reasons.{Reasons, Among, every_reason, premises_only}
 use Rattle.telling.specs.Telling.{lows, highs}
 use Rattle.telling.specs.Theorems.{LosesNone}
-use Rattle.telling.proofs.Cases.{any_clash, all_of}
+use Rattle.telling.proofs.Cases.{any_clash, all_of, all_weaker}
 use Rattle.telling.proofs.Cover.{Cover, Fair, FairTell, FairDead, fired-sound}
 
 -- Cell x's number lies from lo x to hi x.
@@ -94,10 +93,10 @@ module _ (v : Placement) (P : Placed v) where
 
     around : (φ : ℕ → F) (xs : List ℕ) → AllByRecursion (λ x. m.allows (φ x) (v x) ≡ true) xs → AllByRecursion (Around v (lows m φ) (highs m φ)) xs
     around φ xs h =
-        All-weaker (λ x. m.allows (φ x) (v x) ≡ true) (Around v (lows m φ) (highs m φ)) (λ x p. (low_le m l (φ x) (v x) p, high_ge m l (φ x) (v x) p)) xs h
+        all_weaker (λ x. m.allows (φ x) (v x) ≡ true) (Around v (lows m φ) (highs m φ)) (λ x p. (low_le m l (φ x) (v x) p, high_ge m l (φ x) (v x) p)) xs h
 
     no_conflict : (φ : ℕ → F) (xs : List ℕ) → AllByRecursion (λ x. m.allows (φ x) (v x) ≡ true) xs → AllByRecursion (λ x. none m (φ x) ≡ false) xs
-    no_conflict φ xs h = All-weaker (λ x. m.allows (φ x) (v x) ≡ true) (λ x. none m (φ x) ≡ false) (λ x p. none_no m l (φ x) (v x) p) xs h
+    no_conflict φ xs h = all_weaker (λ x. m.allows (φ x) (v x) ≡ true) (λ x. none m (φ x) ≡ false) (λ x p. none_no m l (φ x) (v x) p) xs h
 
     -- A constraint that the placement satisfies, if its premises count, is fair.
     pub satisfied_fair : (k : Constraint) → (Among (premises_only (owned_by k.owner)) r → Satisfies v k.form) → Fair m l placement_cover k
@@ -106,7 +105,7 @@ module _ (v : Placement) (P : Placed v) where
         let q = k.form in
         record {
           fair_tells = λ held.
-              All-weaker Right (FairTell m l placement_cover)
+              all_weaker Right (FairTell m l placement_cover)
               (λ t right φ cov made. l.stated_allows (said (lows m φ) (highs m φ) t.saying) (v t.target) (right (lows m φ) (highs m φ) (around φ (reads t) cov) made))
               (tells q) (satisfied_right q (sat held));
           fair_deads = λ held. all_of (FairDead m l placement_cover (named q)) (λ y φ cov e. any_clash (λ x. none m (φ x)) (named q) (no_conflict φ (named q) cov) e) (named q);

@@ -1,7 +1,6 @@
 -- In an exact kind, what is settled and still is right.
 use Rattle.std.proofs.Common.{◌≡◌, ℕ, true, false, ℤ, pos, ◌+ℤ◌, ◌≤ℤ◌, sym, refl, ◌∙◌, subst, inl, inr, ⊎_elim, arith}
 use Rattle.std.specs.List.{AllByRecursion}
-use Rattle.std.proofs.ByRecursion.{All-weaker}
 use Rattle.std.proofs.lemmas.Int.{ints, clamps, by_lt_z}
 use Rattle.statements.specs.Numbers.{top, InU, raised, lowered}
 use Rattle.statements.specs.Statements.{allowed}
@@ -22,7 +21,7 @@ use Rattle.forms.specs.Tells.{tells, up, down}
 use Rattle.telling.specs.Tables.{bare}
 use Rattle.telling.specs.Stable.{One}
 use Rattle.telling.specs.Theorems.{SettlesRight}
-use Rattle.telling.proofs.Cases.{any_clash}
+use Rattle.telling.proofs.Cases.{any_clash, all_weaker}
 use Rattle.telling.proofs.Tells.{told-says}
 use Rattle.telling.proofs.Fires.{CalmTell, fired-still}
 
@@ -63,6 +62,6 @@ module _ {F : Type 0} (m : Model F) (l : Laws m) (exact : Exact m) (φ : ℕ →
 pub settles_right : {F : Type 0} (m : Model F) → Laws m → SettlesRight m
 settles_right m l exact k φ one still =
     ⊎_elim
-    (λ d. any_clash (λ x. none m (φ x)) (named k.form) (All-weaker (One m φ) (λ x. none m (φ x) ≡ false) (λ x o. o.0) (named k.form) one) d.0)
+    (λ d. any_clash (λ x. none m (φ x)) (named k.form) (all_weaker (One m φ) (λ x. none m (φ x) ≡ false) (λ x o. o.0) (named k.form) one) d.0)
     (λ c. calm_satisfied m l exact φ k.form one c.1)
     (fired-still m l k (bare φ) still)

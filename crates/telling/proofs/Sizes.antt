@@ -1,6 +1,6 @@
 -- Each change makes a table smaller.
-use Rattle.std.proofs.Common.{◌≡◌, ℕ, zero, suc, ◌<◌, ◌≤◌, Bool, true, false, not, sym, refl, ◌∙◌, subst, ⊎_elim, le_refl, arith}
-use Rattle.std.proofs.lemmas.Bool.{cases_eq}
+use Rattle.std.proofs.Common.{◌≡◌, ℕ, zero, suc, ◌<◌, ◌≤◌, true, false, sym, ◌∙◌, subst, ⊎_elim, le_refl, arith}
+use Rattle.std.proofs.lemmas.Bool.{cases_eq, not-true}
 use Rattle.statements.proofs.Tests.{test_clash, test_cases}
 use Rattle.facts.specs.Model.{Model, Tells}
 use Rattle.facts.specs.Laws.{Laws}
@@ -32,10 +32,6 @@ module _ {F : Type 0} (m : Model F) (l : Laws m) where
       let q = tells-size_le (T' n).fact (T n).fact (b n) in
       omega arith
 
-  not_no : (b : Bool) → not b ≡ true → b ≡ false
-  not_no true e = sym e
-  not_no false e = refl
-
   -- Where one of them differs they are smaller.
   pub below_size_lt : (n : ℕ) (T' T : Table F) → Below m (facts T') (facts T) → (x : ℕ) → x < n → changed m T T' x ≡ true → table_size m n T' < table_size m n T
   unfolding table_size
@@ -45,7 +41,7 @@ module _ {F : Type 0} (m : Model F) (l : Laws m) where
       (λ (e : x ≡ n).
       let p = below_size_le n T' T b in
       let c' : changed m T T' n ≡ true = subst (λ z. changed m T T' z ≡ true) e c in
-      let q = tells-size_lt (T' n).fact (T n).fact (b n) (not_no (m.equal (T n).fact (T' n).fact) c') in
+      let q = tells-size_lt (T' n).fact (T n).fact (b n) (not-true (m.equal (T n).fact (T' n).fact) c') in
       omega arith)
       (λ ne.
       let p = below_size_lt n T' T b x (omega arith) c in

@@ -2,7 +2,6 @@
 use Rattle.std.proofs.Common.{◌≡◌, ℕ, true, List, ℤ, pos, ◌+ℤ◌, ◌-ℤ◌, ◌≤ℤ◌, ◌<ℤ◌, sym, refl, subst, ⊎_elim, arith}
 use lib.Signed.{lt_z, ≤ℤ_refl}
 use Rattle.std.specs.List.{AllByRecursion}
-use Rattle.std.proofs.ByRecursion.{All-weaker}
 use Rattle.std.proofs.lemmas.Int.{ints}
 use Rattle.statements.specs.Numbers.{top, bottom}
 use Rattle.statements.specs.Statements.{allowed}
@@ -31,7 +30,7 @@ use Rattle.telling.specs.Firing.{any_in_conflict, fired}
 use Rattle.telling.specs.Stable as stable
 use Rattle.telling.specs.Stable.{Still, Tidy}
 use Rattle.telling.specs.Theorems.{TellsNoMore}
-use Rattle.telling.proofs.Cases.{all_left, all_right, any_implied, all_of}
+use Rattle.telling.proofs.Cases.{all_left, all_right, any_implied, all_of, all_weaker}
 use Rattle.telling.proofs.Tells.{told-says, told-least}
 use Rattle.telling.proofs.Fires.{CalmTell, tells_targets, fired-still}
 use Rattle.telling.proofs.Cover.{Cover, Fair, FairTell, FairDead, fired-sound}
@@ -62,7 +61,7 @@ down_mono s n m h = greatest_to_mono (allowed s) (allowed_within s) (bottom -ℤ
 module _ {F : Type 0} (m : Model F) (l : Laws m) where
   closer : (φ ψ : ℕ → F) (xs : List ℕ) → AllByRecursion (λ x. Tells m (ψ x) (φ x)) xs → AllByRecursion (Closer (lows m φ) (highs m φ) (lows m ψ) (highs m ψ)) xs
   closer φ ψ xs h =
-      All-weaker (λ x. Tells m (ψ x) (φ x)) (Closer (lows m φ) (highs m φ) (lows m ψ) (highs m ψ))
+      all_weaker (λ x. Tells m (ψ x) (φ x)) (Closer (lows m φ) (highs m φ) (lows m ψ) (highs m ψ))
       (λ x p. (low_mono m l (ψ x) (φ x) p, high_mono m l (ψ x) (φ x) p)) xs h
 
   -- Of facts that tell more, more is said.
@@ -108,7 +107,7 @@ module _ {F : Type 0} (m : Model F) (l : Laws m) where
     conflict_mono : (φ : ℕ → F) (xs : List ℕ) → AllByRecursion (λ x. Tells m (ψ x) (φ x)) xs → any_in_conflict m φ xs ≡ true → any_in_conflict m ψ xs ≡ true
     conflict_mono φ xs cov e =
         any_implied (λ x. none m (φ x)) (λ x. none m (ψ x)) xs
-        (All-weaker (λ x. Tells m (ψ x) (φ x)) (λ x. none m (φ x) ≡ true → none m (ψ x) ≡ true) (λ x p. none_mono m l (ψ x) (φ x) p) xs cov) e
+        (all_weaker (λ x. Tells m (ψ x) (φ x)) (λ x. none m (φ x) ≡ true → none m (ψ x) ≡ true) (λ x p. none_mono m l (ψ x) (φ x) p) xs cov) e
 
     calm_fair : (t : Tell) → CalmTell m ψ t → FairTell m l stable_cover t
     unfolding stable_cover
@@ -129,14 +128,14 @@ module _ {F : Type 0} (m : Model F) (l : Laws m) where
         record {
           fair_tells = λ held.
               ⊎_elim
-              (λ d. All-weaker (λ t. ψ t.target ≡ dead m) (FairTell m l stable_cover)
+              (λ d. all_weaker (λ t. ψ t.target ≡ dead m) (FairTell m l stable_cover)
               (λ t e φ cov made. subst (λ z. Tells m z (said_fact m φ t)) (sym e) (dead-tells m l (said_fact m φ t)))
               (tells q) (tells_targets (λ x. ψ x ≡ dead m) q d.1))
-              (λ c. All-weaker (CalmTell m ψ) (FairTell m l stable_cover) calm_fair (tells q) c.1)
+              (λ c. all_weaker (CalmTell m ψ) (FairTell m l stable_cover) calm_fair (tells q) c.1)
               (fired-still m l k (bare ψ) (st held));
           fair_deads = λ held.
               ⊎_elim
-              (λ d. All-weaker (λ x. ψ x ≡ dead m) (FairDead m l stable_cover (named q))
+              (λ d. all_weaker (λ x. ψ x ≡ dead m) (FairDead m l stable_cover (named q))
               (λ x e φ cov c. subst (λ z. Tells m z (dead m)) (sym e) (tells-refl m l (dead m)))
               (named q) d.1)
               (λ c. all_of (FairDead m l stable_cover (named q)) (λ x φ cov e. test_clash (conflict_mono φ (named q) cov e) c.0) (named q))
@@ -154,13 +153,13 @@ module _ {F : Type 0} (m : Model F) (l : Laws m) where
   unfolding stable_cover
   tells_no_more = record {
     above_stays = λ ks s φ st T ab.
-        All-weaker (λ k. InForce s k → Still m k φ) (λ k. InForce s k → stable.Above m φ (fired m k T))
+        all_weaker (λ k. InForce s k → Still m k φ) (λ k. InForce s k → stable.Above m φ (fired m k T))
         (λ k still force x.
         fired-sound m l (stable_cover every_reason φ st.tidy) k (still_fair every_reason φ st.tidy k (λ h. still force)) T (λ y h. ab y) x
         (among_every (fired m k T x).reasons))
         ks st.still;
     above_by_reasons = λ ks s φ st T ab.
-        All-weaker (λ k. InForce s k → Still m k φ) (λ k. stable.AboveBy m (premises_only s) φ (fired m k T))
+        all_weaker (λ k. InForce s k → Still m k φ) (λ k. stable.AboveBy m (premises_only s) φ (fired m k T))
         (λ k still.
         fired-sound m l (stable_cover (premises_only s) φ st.tidy) k (still_fair (premises_only s) φ st.tidy k (λ h. still (force-among s k h))) T ab)
         ks st.still;

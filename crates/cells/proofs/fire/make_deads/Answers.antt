@@ -1,32 +1,45 @@
-use Rattle.std.proofs.Common.{arith}
+use Rattle.std.proofs.Common.{length, ◌∙◌, ap₂, refl, subst, rules}
+use Rattle.std.proofs.lemmas.Bool.{lt-ltb}
+use Rattle.facts.specs.Derived.{dead}
 use Rattle.plan.specs.Forms.{named}
 use Rattle.plan.specs.Placements.{owned_by}
-use Rattle.cells.specs.Meaning.{table_of}
-use Rattle.cells.proofs.Firing.{deads_none, deads_more, deads_all_table, deads_all_cells}
+use Rattle.telling.specs.Reasons.{together}
+use Rattle.cells.specs.Meaning.{Inside, tags_of, table_of}
+use Rattle.cells.specs.Changes.{changed_cells}
+use Rattle.cells.proofs.Firing.{deads_more, deads_all, grown_then, grown_else}
 use Rattle.cells.proofs.fire.make_deads.Goals as goal
 
-pub loop-x-init : goal.loop-x-init
-loop-x-init g c =
-    let m = g.K.Kind.model in
-    let k = c.args.k in
-    deads_none m (owned_by k.owner) (named k.form) (table_of m c.args.table.now) c.none-out.result c.none-out.ensures.cells (omega (arith, c.none-out.ensures.count))
-
 pub loop-x-preserved : goal.loop-x-preserved
+unfolding dead
 loop-x-preserved g c =
     let m = g.K.Kind.model in
     let k = c.args.k in
-    deads_more m (owned_by k.owner) (named k.form) (table_of m c.args.table.now) c.loop-x.i (table_of m c.loop-x.table) (table_of m c.make_dead-changed.new.table)
-    c.loop-x.out c.with-out.result c.in-Some.x c.make_dead-changed.result c.in-Some.ensures c.loop-x.invariant c.make_dead-changed.ensures.table c.make_dead-changed.ensures.change c.with-out.ensures.cells c.with-out.ensures.count
+    let x = c.in-Some.x in
+    let cs = changed_cells c.loop-x.out in
+    let here = subst (Inside (length c.loop-x.table)) c.in-Some.ensures.steps c.loop-x.invariant.inside in
+    record {
+      inside = search rules;
+      so_far = deads_more m (owned_by k.owner) (named k.form) c.loop-x.invariant.so_far x c.next.new.self c.state.result (tags_of c.union-s.result) _ (table_of m c.tell.new.table) c.tell.result cs c.in-Some.ensures.steps
+          (lt-ltb x (length c.loop-x.table) here.0) c.tell.ensures.table c.state.ensures (c.union-s.ensures ∙ ap₂ together c.owned.ensures c.form_reasons.ensures) c.tell.ensures.change (grown_else c.tell.result x cs cs c.if-tell.false refl);
+    }
+
+pub loop-x-preserved-then-tell : goal.loop-x-preserved-then-tell
+unfolding dead
+loop-x-preserved-then-tell g c =
+    let m = g.K.Kind.model in
+    let k = c.args.k in
+    let x = c.in-Some.x in
+    let cs = changed_cells c.loop-x.out in
+    let cs' = changed_cells c.push.new.self in
+    let here = subst (Inside (length c.loop-x.table)) c.in-Some.ensures.steps c.loop-x.invariant.inside in
+    record {
+      inside = search rules;
+      so_far = deads_more m (owned_by k.owner) (named k.form) c.loop-x.invariant.so_far x c.next.new.self c.state.result (tags_of c.union-s.result) _ (table_of m c.tell.new.table) c.tell.result cs' c.in-Some.ensures.steps
+          (lt-ltb x (length c.loop-x.table) here.0) c.tell.ensures.table c.state.ensures (c.union-s.ensures ∙ ap₂ together c.owned.ensures c.form_reasons.ensures) c.tell.ensures.change (grown_then c.tell.result x cs cs' c.if-tell.true c.push.ensures);
+    }
 
 pub returns : goal.returns
 returns g c =
-    let m = g.K.Kind.model in
     let k = c.args.k in
-    let ps = owned_by k.owner in
-    let ns = named k.form in
-    let S = table_of m c.args.table.now in
-    let T = table_of m c.loop-x.table in
-    record {
-      table = deads_all_table m ps ns S c.loop-x.i T c.loop-x.out c.in_default.ensures c.loop-x.invariant;
-      cells = deads_all_cells m ps ns S c.loop-x.i T c.loop-x.out c.in_default.ensures c.loop-x.invariant;
-    }
+    let all = deads_all g.K.Kind.model (owned_by k.owner) (named k.form) c.loop-x.invariant.so_far c.in-None.ensures.steps.0 in
+    record { table = all.0; cells = all.1 }

@@ -1,26 +1,13 @@
-use Rattle.std.proofs.Common.{◌≡◌, pos, ◌+ℤ◌, Some, None, ap, ◌∙◌, arith, w64, to_z, of_z}
+use Rattle.std.proofs.Common.{◌≡◌, ◌∙◌, subst, arith, w64, to_z, of_z}
 use Rattle.std.proofs.lemmas.Int.{ints}
-use Rattle.statements.specs.Numbers.{top}
-use Rattle.statements.specs.Search.{least_from, or_else}
+use Rattle.statements.specs.Search.{LeastFrom}
 use Rattle.statements.specs.Statements.{allowed}
-use Rattle.statements.proofs.Searches.{least_from_is}
-use Rattle.statements.proofs.Statements.{allowed_within}
-use Rattle.forms.specs.Tells.{up}
+use Rattle.cells.proofs.Readings.{up-unwrap_or}
 use Rattle.cells.proofs.reads.least.Goals as goal
 
-pub returns-in-Some : goal.returns-in-Some
-unfolding up
-returns-in-Some c =
-    let s = c.args.s in
-    let v = c.in-Some.v in
-    let n-is : to_z w64 (of_z w64 c.args.n) ≡ c.args.n = omega (arith, ints) in
-    let u = allowed_within s v c.in-Some.ensures.1 in
-    let v-is : to_z w64 (of_z w64 v) ≡ v = omega (arith, ints) in
-    v-is ∙ ap (or_else (top +ℤ pos 1)) (least_from_is (allowed s) (allowed_within s) (to_z w64 (of_z w64 c.args.n)) (Some v) c.in-Some.ensures) ∙ ap (λ z. or_else (top +ℤ pos 1) (least_from (allowed s) z)) n-is
-
-pub returns-in-None : goal.returns-in-None
-unfolding up
-returns-in-None c =
+pub returns : goal.returns
+returns c =
     let s = c.args.s in
     let n-is : to_z w64 (of_z w64 c.args.n) ≡ c.args.n = omega (arith, ints) in
-    ap (or_else (top +ℤ pos 1)) (least_from_is (allowed s) (allowed_within s) (to_z w64 (of_z w64 c.args.n)) None c.in-None.ensures) ∙ ap (λ z. or_else (top +ℤ pos 1) (least_from (allowed s) z)) n-is
+    let result-is : to_z w64 (of_z w64 c.unwrap_or.result) ≡ c.unwrap_or.result = omega (arith, ints) in
+    result-is ∙ c.unwrap_or.ensures ∙ up-unwrap_or s c.args.n c.least_from.result (subst (λ n. LeastFrom (allowed s) n c.least_from.result) n-is c.least_from.ensures)
