@@ -1,6 +1,6 @@
 // Two facts of two kinds about one number: a kind again, exact where its first part is.
 ghost use Rattle.facts.specs.Both.{both_model};
-ghost use Rattle.facts.specs.BothLaws.{both_laws};
+ghost use Rattle.facts.specs.BothLaws.{both_laws, both_exact};
 
 use crate::exact::ExactKind;
 use crate::kind::Kind;
@@ -63,6 +63,8 @@ impl<A: Kind, B: Kind> Kind for Both<A, B> {
 }
 
 impl<A: ExactKind, B: Kind> ExactKind for Both<A, B> {
+    ghost exact = { both_exact A.Kind.model B.Kind.model A.Kind.lawful B.Kind.lawful A.ExactKind.exact };
+
     fn exactly(lo: i64, hi: i64) -> Both<A, B> {
         Both {
             first: A::exactly(lo, hi),

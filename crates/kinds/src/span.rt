@@ -1,7 +1,7 @@
 // The kind Span: two ends, or none. It is exact.
 ghost use Rattle.std.specs.Prelude.{◌≡◌};
 ghost use Rattle.kinds.specs.Span.{cut, span_model};
-ghost use Rattle.kinds.specs.SpanLaws.{span_laws};
+ghost use Rattle.kinds.specs.SpanLaws.{span_laws, span_exact};
 
 use crate::ends::Ends;
 use facts::exact::ExactKind;
@@ -62,6 +62,8 @@ impl Kind for Span {
 }
 
 impl ExactKind for Span {
+    ghost exact = { span_exact };
+
     fn exactly(lo: i64, hi: i64) -> Span {
         Span::cut(lo, hi)
     }
