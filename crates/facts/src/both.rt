@@ -33,6 +33,8 @@ impl<A: Kind, B: Kind> Kind for Both<A, B> {
     }
 
     // The parts take turns: each goes on from where the other stands, until they agree or one has no more.
+    // last is a loop of its own: one loop for both would have to be told its direction and what each part allows, as a ghost
+    // value with a clause for each part, and so would say more than the two.
     fn next(self, n: i64) -> Option<i64> {
         let mut from = n;
         loop {
