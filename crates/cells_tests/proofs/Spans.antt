@@ -1,5 +1,5 @@
 -- Firing over spans, tell by tell.
-use Rattle.std.proofs.Common.{◌≡◌, ℕ, Bool, true, false, cond, eqb, List, [], ◌∷◌, sym, refl, ap, ◌∙◌, ap₂}
+use Rattle.std.proofs.Common.{◌≡◌, ℕ, Bool, true, false, cond, eqb, List, [], ◌∷◌, Some, None, sym, refl, ap, ◌∙◌, ap₂}
 use mathlib.Core.Path.{fun_ext}
 use Rattle.std.specs.List.{AllByRecursion}
 use Rattle.std.proofs.lemmas.Bool.{cond-true, cond-false, or_from}
@@ -7,10 +7,9 @@ use Rattle.statements.proofs.Tests.{test_clash, test_cases, inside_made}
 use Rattle.facts.specs.Derived.{none, tidy, told}
 use Rattle.facts.proofs.Order.{low-allowed, none_no}
 use Rattle.facts.proofs.TidyLaws.{tidy_allows}
-use Rattle.kinds.specs.Span.{span_meet, span_model}
+use Rattle.kinds.specs.Span.{span_of, span_meet, span_model}
 use Rattle.kinds.specs.declared.ends.Ends.{Ends}
 use Rattle.kinds.specs.declared.span.Span.{Span}
-use Rattle.kinds.specs.declared.span.Span.TheVariants.{Within, Empty}
 use Rattle.kinds.specs.SpanLaws.{span_ext, span_laws}
 use Rattle.plan.specs.Forms.{named}
 use Rattle.plan.specs.Placements.{Premises, owned_by}
@@ -30,11 +29,11 @@ span-told : (g f : Span) → told span_model g f ≡ span_meet f g
 unfolding told
 span-told g f = span-tidy (span_meet f g)
 
-pub span-some : (e : Ends) → none span_model (Within e) ≡ false
-span-some e = none_no span_model span_laws (Within e) e.lo (inside_made e.lo e.hi e.lo (lib.Signed.≤ℤ_refl e.lo) e.order)
+pub span-some : (e : Ends) → none span_model (span_of (Some e)) ≡ false
+span-some e = none_no span_model span_laws (span_of (Some e)) e.lo (inside_made e.lo e.hi e.lo (lib.Signed.≤ℤ_refl e.lo) e.order)
 
-pub span_empty : none span_model Empty ≡ true
-span_empty = test_cases (none span_model Empty) (λ e. e) (λ e. test_clash (low-allowed span_model span_laws Empty e) refl)
+pub span_empty : none span_model (span_of None) ≡ true
+span_empty = test_cases (none span_model (span_of None)) (λ e. e) (λ e. test_clash (low-allowed span_model span_laws (span_of None) e) refl)
 
 pub any_no : {A : Type 0} (p : A → Bool) (xs : List A) → AllByRecursion (λ x. p x ≡ false) xs → any p xs ≡ false
 unfolding any

@@ -1,9 +1,8 @@
 -- The worked examples of firing.
 use Rattle.std.specs.Prelude.{◌≡◌, ℕ, List, [], ◌∷◌, map, pos, None, slice_index_or}
 use Rattle.statements.specs.Numbers.{top, bottom}
-use Rattle.kinds.specs.Span.{cut, span_model}
+use Rattle.kinds.specs.Span.{cut, span_of, span_model}
 use Rattle.kinds.specs.declared.span.Span.{Span}
-use Rattle.kinds.specs.declared.span.Span.TheVariants.{Empty}
 use Rattle.plan.specs.Forms.{named}
 use Rattle.plan.specs.declared.constraint.Form.{Form}
 use Rattle.plan.specs.declared.constraint.Form.TheVariants.{Sum, Apart}
@@ -33,5 +32,5 @@ abbrev pub examples : List Example
 examples =
     record { form = Sum 0 1 2; before = span 2 3 ∷ span 10 20 ∷ span 0 15 ∷ []; after = span 2 3 ∷ span 10 13 ∷ span 12 15 ∷ [] }
     ∷ record { form = Apart 0 4 1 8; before = span 0 10 ∷ span 2 3 ∷ []; after = span 10 10 ∷ span 2 2 ∷ [] }
-    ∷ record { form = Sum 0 1 2; before = cut top top ∷ span 1 1 ∷ []; after = cut top top ∷ span 1 1 ∷ Empty ∷ [] }
+    ∷ record { form = Sum 0 1 2; before = cut top top ∷ span 1 1 ∷ []; after = cut top top ∷ span 1 1 ∷ span_of None ∷ [] }
     ∷ []

@@ -24,25 +24,19 @@ fn line(owner: usize, form: Form) -> Constraint {
     }
 }
 
+// The line of premise `owner` that cell x lies from lo to hi, fired.
+fn lay(rt: &impl Abort, table: &mut [Cell<Span>], owner: usize, x: usize, lo: i64, hi: i64) {
+    let form = Form::State(x, Statement::Between(lo, hi));
+    assert!(rt; fire(table, line(owner, form)).is_some());
+}
+
 // Two lines on one cell where the later says everything: its reasons alone remain.
 #[test]
 fn the_later_says_everything(rt: HostRuntime) {
     let mut table = [Cell::<Span>::start()];
-    assert!(rt;
-        fire(
-            &mut table,
-            line(0, Form::State(0, Statement::Between(0, 10))),
-        )
-        .is_some()
-    );
+    lay(&rt, &mut table, 0, 0, 0, 10);
     premises(&rt, table[0], true, false, false);
-    assert!(rt;
-        fire(
-            &mut table,
-            line(1, Form::State(0, Statement::Between(3, 5))),
-        )
-        .is_some()
-    );
+    lay(&rt, &mut table, 1, 0, 3, 5);
     premises(&rt, table[0], false, true, false);
 }
 
@@ -50,53 +44,20 @@ fn the_later_says_everything(rt: HostRuntime) {
 #[test]
 fn the_later_adds(rt: HostRuntime) {
     let mut table = [Cell::<Span>::start()];
-    assert!(rt;
-        fire(
-            &mut table,
-            line(0, Form::State(0, Statement::Between(0, 10))),
-        )
-        .is_some()
-    );
-    assert!(rt;
-        fire(
-            &mut table,
-            line(1, Form::State(0, Statement::Between(4, 20))),
-        )
-        .is_some()
-    );
+    lay(&rt, &mut table, 0, 0, 0, 10);
+    lay(&rt, &mut table, 1, 0, 4, 20);
     premises(&rt, table[0], true, true, false);
-    assert!(rt;
-        fire(
-            &mut table,
-            line(2, Form::State(0, Statement::Between(0, 20))),
-        )
-        .is_some()
-    );
+    lay(&rt, &mut table, 2, 0, 0, 20);
     premises(&rt, table[0], true, true, false);
 }
 
 // An apart whose tell says everything of cell 0: the condition read that cell too, so its premise is among the reasons.
 #[test]
 fn a_condition_counts(rt: HostRuntime) -> Result<(), Fail> {
-    let mut table = [Cell::<Span>::start(), Cell::<Span>::start()];
-    assert!(rt;
-        fire(
-            &mut table,
-            line(0, Form::State(0, Statement::Between(0, TOP))),
-        )
-        .is_some()
-    );
-    assert!(rt;
-        fire(
-            &mut table,
-            line(1, Form::State(1, Statement::Between(2, 3))),
-        )
-        .is_some()
-    );
-    let Some(changed) = fire(&mut table, line(2, Form::Apart(0, 4, 1, 8))) else {
-        assert!(rt; false);
-        return Ok(());
-    };
+    let mut table = [Cell::<Span>::start(); 2];
+    lay(&rt, &mut table, 0, 0, 0, TOP);
+    lay(&rt, &mut table, 1, 1, 2, 3);
+    let changed = fire(&mut table, line(2, Form::Apart(0, 4, 1, 8))).ok_or("not fired")?;
     assert_eq!(rt; changed.at(0), Some(0));
     assert_eq!(rt; changed.at(1), None);
     premises(&rt, table[0], true, true, true);

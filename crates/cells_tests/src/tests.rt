@@ -34,28 +34,22 @@ fn spans<K: Kind>(
     lo: i64,
     hi: i64,
 ) -> Result<(), Fail> {
-    if x >= table.len() {
-        assert!(rt; false);
-        return Ok(());
-    }
-    assert_eq!(rt; lowest(table[x].fact), lo);
-    assert_eq!(rt; highest(table[x].fact), hi);
+    let cell = table.get(x).ok_or("no such cell")?;
+    assert_eq!(rt; lowest(cell.fact), lo);
+    assert_eq!(rt; highest(cell.fact), hi);
     Ok(())
 }
 
 // Whether cell x is in conflict.
 fn conflict<K: Kind>(table: &[Cell<K>], x: usize) -> bool {
-    x < table.len() && table[x].in_conflict()
+    table.get(x).is_some_and(|c| c.in_conflict())
 }
 
 fn a_sum_narrows<K: Kind>(rt: &impl Abort, table: &mut [Cell<K>]) -> Result<(), Fail> {
     lay(rt, table, 0, 2, 3);
     lay(rt, table, 1, 10, 20);
     lay(rt, table, 2, 0, 15);
-    let Some(changed) = fire(table, unowned(Form::Sum(0, 1, 2))) else {
-        assert!(rt; false);
-        return Ok(());
-    };
+    let changed = fire(table, unowned(Form::Sum(0, 1, 2))).ok_or("not fired")?;
     assert_eq!(rt; changed.at(0), Some(2));
     assert_eq!(rt; changed.at(1), Some(1));
     assert_eq!(rt; changed.at(2), None);
@@ -91,44 +85,32 @@ fn what_cannot_be_fired<K: Kind>(rt: &impl Abort, table: &mut [Cell<K>]) -> Resu
     spans(rt, table, 0, 0, 10)
 }
 
-fn span_cells() -> [Cell<Span>; 3] {
-    [
-        Cell::<Span>::start(),
-        Cell::<Span>::start(),
-        Cell::<Span>::start(),
-    ]
+// Nothing is known yet of any cell.
+fn begin<K: Kind>(table: &mut [Cell<K>]) {
+    for cell in table.iter_mut() {
+        *cell = Cell::start();
+    }
 }
 
-fn full_cells() -> [Cell<Full>; 3] {
-    [
-        Cell::<Full>::start(),
-        Cell::<Full>::start(),
-        Cell::<Full>::start(),
-    ]
+fn all_four<K: Kind>(rt: &impl Abort, table: &mut [Cell<K>]) -> Result<(), Fail> {
+    begin(table);
+    a_sum_narrows(rt, table)?;
+    begin(table);
+    an_apart_settles(rt, table)?;
+    begin(table);
+    a_sum_past_the_top(rt, table);
+    begin(table);
+    what_cannot_be_fired(rt, table)
 }
 
 #[test]
 fn at_span(rt: HostRuntime) -> Result<(), Fail> {
-    let mut table = span_cells();
-    a_sum_narrows(&rt, &mut table)?;
-    let mut table = span_cells();
-    an_apart_settles(&rt, &mut table)?;
-    let mut table = span_cells();
-    a_sum_past_the_top(&rt, &mut table);
-    let mut table = span_cells();
-    what_cannot_be_fired(&rt, &mut table)
+    all_four(&rt, &mut [Cell::<Span>::start(); 3])
 }
 
 #[test]
 fn at_full(rt: HostRuntime) -> Result<(), Fail> {
-    let mut table = full_cells();
-    a_sum_narrows(&rt, &mut table)?;
-    let mut table = full_cells();
-    an_apart_settles(&rt, &mut table)?;
-    let mut table = full_cells();
-    a_sum_past_the_top(&rt, &mut table);
-    let mut table = full_cells();
-    what_cannot_be_fired(&rt, &mut table)
+    all_four(&rt, &mut [Cell::<Full>::start(); 3])
 }
 
 // Multiples of 4 from 5 to 9. At the full kind the first tell leaves 8 alone; at Span it says nothing new, and the second
@@ -136,11 +118,11 @@ fn at_full(rt: HostRuntime) -> Result<(), Fail> {
 #[test]
 fn a_statement(rt: HostRuntime) -> Result<(), Fail> {
     let fours = Statement::Aligned(Residue { k: 2, r: 0 });
-    let mut full = full_cells();
+    let mut full = [Cell::<Full>::start(); 3];
     lay(&rt, &mut full, 0, 5, 9);
     fires(&rt, &mut full, Form::State(0, fours));
     spans(&rt, &full, 0, 8, 8)?;
-    let mut span = span_cells();
+    let mut span = [Cell::<Span>::start(); 3];
     lay(&rt, &mut span, 0, 5, 9);
     fires(&rt, &mut span, Form::State(0, fours));
     spans(&rt, &span, 0, 8, 8)

@@ -1,19 +1,19 @@
 -- Kinds in which facts that allow the same numbers are equal owe less: their merge is lawful by its numbers alone.
 use Rattle.std.proofs.Common.{◌≡◌, true, ◌&&◌, ℤ, sym, ◌∙◌}
-use Rattle.statements.proofs.Tests.{and_left, and_right, and_made}
+use Rattle.std.proofs.lemmas.Bool.{and_from, and_parts}
 use Rattle.facts.specs.Model.{Model, Tells}
 
 module _ {F : Type 0} (m : Model F)
     (meet_allows : (f g : F) (n : ℤ) → m.allows (m.meet f g) n ≡ (m.allows f n && m.allows g n))
     (ext : (f g : F) → ((n : ℤ) → m.allows f n ≡ true → m.allows g n ≡ true) → ((n : ℤ) → m.allows g n ≡ true → m.allows f n ≡ true) → f ≡ g) where
   of_left : (f g : F) (n : ℤ) → m.allows (m.meet f g) n ≡ true → m.allows f n ≡ true
-  of_left f g n e = and_left (m.allows f n) (m.allows g n) (sym (meet_allows f g n) ∙ e)
+  of_left f g n e = (and_parts (m.allows f n) (m.allows g n) (sym (meet_allows f g n) ∙ e)).0
 
   of_right : (f g : F) (n : ℤ) → m.allows (m.meet f g) n ≡ true → m.allows g n ≡ true
-  of_right f g n e = and_right (m.allows f n) (m.allows g n) (sym (meet_allows f g n) ∙ e)
+  of_right f g n e = (and_parts (m.allows f n) (m.allows g n) (sym (meet_allows f g n) ∙ e)).1
 
   of_both : (f g : F) (n : ℤ) → m.allows f n ≡ true → m.allows g n ≡ true → m.allows (m.meet f g) n ≡ true
-  of_both f g n p q = meet_allows f g n ∙ and_made p q
+  of_both f g n p q = meet_allows f g n ∙ and_from _ _ p q
 
   pub ext_assoc : (f g h : F) → m.meet (m.meet f g) h ≡ m.meet f (m.meet g h)
   ext_assoc f g h =

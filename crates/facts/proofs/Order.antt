@@ -4,7 +4,8 @@ use Rattle.std.proofs.lemmas.Int.{ints, clamps, by_lt_z}
 use Rattle.statements.specs.Numbers.{top, bottom, InU, raised, lowered}
 use Rattle.statements.specs.Between.{between}
 use Rattle.statements.specs.declared.statement.Statement.TheVariants.{Between}
-use Rattle.statements.proofs.Tests.{and_right, and_made, inside_made, inside_of, inside_below, inside_above}
+use Rattle.std.proofs.lemmas.Bool.{and_from, and_parts}
+use Rattle.statements.proofs.Tests.{inside_made, inside_of, inside_below, inside_above}
 use Rattle.statements.proofs.Searches.{lowest_le, highest_ge, lowest_in, highest_in, lowest-some, highest-some, lowest_none, highest_none, lowest_mono, highest_mono, allows_none_no, allows_none_of, allows_none_mono}
 use Rattle.facts.specs.Model.{Model, Tells}
 use Rattle.facts.specs.Laws.{Laws}
@@ -38,10 +39,10 @@ module _ {F : Type 0} (m : Model F) (l : Laws m) where
 
   -- What tells at least g allows no more than g.
   pub tells-allows : (f g : F) (n : ℤ) → Tells m f g → m.allows f n ≡ true → m.allows g n ≡ true
-  tells-allows f g n p h = and_right (m.allows f n) (m.allows g n) (sym (l.meet_allows f g n) ∙ ap (λ z. m.allows z n) p ∙ h)
+  tells-allows f g n p h = (and_parts (m.allows f n) (m.allows g n) (sym (l.meet_allows f g n) ∙ ap (λ z. m.allows z n) p ∙ h)).1
 
   pub meet_allows_both : (f g : F) (n : ℤ) → m.allows f n ≡ true → m.allows g n ≡ true → m.allows (m.meet f g) n ≡ true
-  meet_allows_both f g n p q = l.meet_allows f g n ∙ and_made p q
+  meet_allows_both f g n p q = l.meet_allows f g n ∙ and_from _ _ p q
 
   -- ---- lowest and highest
 

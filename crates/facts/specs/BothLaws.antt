@@ -2,7 +2,9 @@
 use Rattle.std.specs.Prelude.{◌≡◌, ◌<◌, ◌≤◌, Bool, true, false, ◌&&◌, ◌≢◌, refl}
 use Rattle.std.proofs.Common.{sym, subst, ap, ap₂, ◌∙◌, le_refl, arith}
 use Rattle.statements.specs.declared.statement.Statement.TheVariants.{Between}
-use Rattle.statements.proofs.Tests.{test_cases, test_clash, and_made, and_left, and_right}
+use Rattle.std.proofs.lemmas.Bool.{and_from, and_parts}
+use Rattle.std.proofs.lemmas.Bool.Decides.{Decides-and}
+use Rattle.statements.proofs.Tests.{test_cases, test_clash}
 use Rattle.facts.specs.Model.{Model}
 use Rattle.facts.specs.Laws.{Laws, Exact}
 use Rattle.facts.specs.Both.{both_model}
@@ -37,8 +39,8 @@ module _ {A : Type 0} {B : Type 0} (a : Model A) (b : Model B) (la : Laws a) (lb
 
   pub both_laws : Laws (both_model a b)
   both_laws = record {
-    allows_within = λ f n h. la.allows_within f.first n (and_left (a.allows f.first n) (b.allows f.second n) h);
-    stated_allows = λ s n h. and_made (la.stated_allows s n h) (lb.stated_allows s n h);
+    allows_within = λ f n h. la.allows_within f.first n (and_parts (a.allows f.first n) (b.allows f.second n) h).0;
+    stated_allows = λ s n h. and_from _ _ (la.stated_allows s n h) (lb.stated_allows s n h);
     meet_allows = λ f g n.
         ap₂ ◌&&◌ (la.meet_allows f.first g.first n) (lb.meet_allows f.second g.second n)
         ∙ and_swap (a.allows f.first n) (a.allows g.first n) (b.allows f.second n) (b.allows g.second n);
@@ -47,12 +49,9 @@ module _ {A : Type 0} {B : Type 0} (a : Model A) (b : Model B) (la : Laws a) (lb
     meet_idem = λ f. both_ext _ _ (la.meet_idem f.first) (lb.meet_idem f.second);
     narrower_tells = λ lo hi lo' hi' h. both_ext _ _ (la.narrower_tells lo hi lo' hi' h) (lb.narrower_tells lo hi lo' hi' h);
     empty_tells = λ lo hi h f. both_ext _ _ (la.empty_tells lo hi h f.first) (lb.empty_tells lo hi h f.second);
-    equal_decides = λ f g. (
-      λ h. both_ext f g
-          ((la.equal_decides f.first g.first).0 (and_left (a.equal f.first g.first) (b.equal f.second g.second) h))
-          ((lb.equal_decides f.second g.second).0 (and_right (a.equal f.first g.first) (b.equal f.second g.second) h)),
-      λ h. and_made ((la.equal_decides f.first g.first).1 (ap (λ x. x.first) h)) ((lb.equal_decides f.second g.second).1 (ap (λ x. x.second) h)),
-    );
+    equal_decides = λ f g.
+        let d = Decides-and (a.equal f.first g.first) (b.equal f.second g.second) (la.equal_decides f.first g.first) (lb.equal_decides f.second g.second) in
+        (λ h. let p = d.0 h in both_ext f g p.0 p.1, λ h. d.1 (ap (λ x. x.first) h, ap (λ x. x.second) h));
     size_falls = both_size_falls;
   }
 

@@ -1,5 +1,5 @@
 -- What each kind of fact shows.
-use Rattle.std.specs.Prelude.{◌≡◌, ◌<◌, true, false, ◌&&◌, ◌≢◌, ℤ}
+use Rattle.std.specs.Prelude.{◌≡◌, ◌<◌, true, false, ◌&&◌, ◌≢◌, Decides, ℤ}
 use Rattle.statements.specs.Between.{between}
 use Rattle.statements.specs.Numbers.{Within}
 use Rattle.statements.specs.Statements.{allowed}
@@ -23,7 +23,7 @@ pub record Laws {F : Type 0} (m : Model F) : Type 0 where
   -- an empty Between's fact tells at least every fact
   pub empty_tells : (lo hi : ℤ) → ((n : ℤ) → between lo hi n ≡ false) → (f : F) → Tells m (m.stated (Between lo hi)) f
   -- the test of equality is yes exactly where the facts are equal
-  pub equal_decides : (f g : F) → (m.equal f g ≡ true → f ≡ g) × (f ≡ g → m.equal f g ≡ true)
+  pub equal_decides : (f g : F) → Decides (m.equal f g) (f ≡ g)
   -- a merge that changes a fact has a smaller size
   pub size_falls : (f g : F) → m.meet f g ≢ f → m.size (m.meet f g) < m.size f
 

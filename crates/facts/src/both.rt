@@ -1,6 +1,6 @@
 // Two facts of two kinds about one number: a kind again, exact where its first part is.
 ghost use Rattle.facts.specs.Both.{both_model};
-ghost use Rattle.facts.specs.BothLaws.{both_laws};
+ghost use Rattle.facts.specs.BothLaws.{both_laws, both_exact};
 
 use crate::exact::ExactKind;
 use crate::kind::Kind;
@@ -33,6 +33,8 @@ impl<A: Kind, B: Kind> Kind for Both<A, B> {
     }
 
     // The parts take turns: each goes on from where the other stands, until they agree or one has no more.
+    // last is a loop of its own: one loop for both would have to be told its direction and what each part allows, as a ghost
+    // value with a clause for each part, and so would say more than the two.
     fn next(self, n: i64) -> Option<i64> {
         let mut from = n;
         loop {
@@ -63,6 +65,8 @@ impl<A: Kind, B: Kind> Kind for Both<A, B> {
 }
 
 impl<A: ExactKind, B: Kind> ExactKind for Both<A, B> {
+    ghost exact = { both_exact A.Kind.model B.Kind.model A.Kind.lawful B.Kind.lawful A.ExactKind.exact };
+
     fn exactly(lo: i64, hi: i64) -> Both<A, B> {
         Both {
             first: A::exactly(lo, hi),

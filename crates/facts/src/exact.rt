@@ -9,6 +9,8 @@ use crate::kind::Kind;
 pub trait ExactKind: Kind {
     // The fact that allows exactly lo to hi, within U.
     fn exactly(lo: i64, hi: i64) -> Self
-        ensures is { result ≡ Self.Kind.model.stated (Between lo hi) }
-        ensures exact { Exact Self.Kind.model };
+        ensures { result ≡ Self.Kind.model.stated (Between lo hi) };
+
+    // What every exact kind shows.
+    ghost exact: { Exact Self.Kind.model };
 }

@@ -1,17 +1,15 @@
 -- The worked examples of the kinds.
-use Rattle.std.specs.Prelude.{◌≡◌, ℕ, ◌^◌, T, List, [], ◌∷◌, ℤ, pos, nat_le, nat_lt}
+use Rattle.std.specs.Prelude.{◌≡◌, ℕ, ◌^◌, T, List, [], ◌∷◌, ℤ, pos, None, nat_le, nat_lt}
 use Rattle.std.proofs.Common.{leb→le, ltb→lt}
 use Rattle.statements.specs.declared.residue.Residue.{Residue}
 use Rattle.statements.specs.declared.statement.Statement.TheVariants.{Between, Aligned}
 use Rattle.facts.specs.Derived.{low, high}
 use Rattle.facts.specs.declared.both.Both.{Both}
-use Rattle.kinds.specs.Span.{span_model}
-use Rattle.kinds.specs.Align.{align_model}
+use Rattle.kinds.specs.Span.{span_of, span_model}
+use Rattle.kinds.specs.Align.{align_of, align_model}
 use Rattle.kinds.specs.Full.{full_model}
 use Rattle.kinds.specs.declared.align.Align.{Align}
-use Rattle.kinds.specs.declared.align.Align.TheVariants.{Nothing}
 use Rattle.kinds.specs.declared.span.Span.{Span}
-use Rattle.kinds.specs.declared.span.Span.TheVariants.{Empty}
 
 -- The span of lo to hi.
 abbrev pub span : ℕ → ℕ → Span
@@ -44,8 +42,8 @@ Holds (ends f lo hi) = (low full_model f ≡ lo) × (high full_model f ≡ hi)
 abbrev pub examples : List Example
 examples =
     spans (span 0 10) (span 5 20) (span 5 10)
-    ∷ spans (span 0 4) (span 5 9) Empty
+    ∷ spans (span 0 4) (span 5 9) (span_of None)
     ∷ aligns (align 3 0 tt tt) (align 2 0 tt tt) (align 3 0 tt tt)
-    ∷ aligns (align 3 4 tt tt) (align 2 2 tt tt) Nothing
+    ∷ aligns (align 3 4 tt tt) (align 2 2 tt tt) (align_of None)
     ∷ ends fours (pos 8) (pos 8)
     ∷ []

@@ -5,4 +5,5 @@ pub mod Full
 pub mod Examples
 pub mod AlignLaws
 pub mod Rests
+pub mod Absence
 pub mod SpanLaws

@@ -1,27 +1,30 @@
 -- Span is a lawful kind, and exact.
-use Rattle.std.specs.Prelude.{◌≡◌, ℕ, ◌<◌, Bool, true, false, ◌&&◌, ◌≢◌, ℤ, pos, negsuc, ◌+ℤ◌, ◌-ℤ◌, ◌≤ℤ◌, ◌<ℤ◌, Some, int_le, refl}
-use Rattle.std.proofs.Common.{sym, ap, ◌∙◌, arith}
+use Rattle.std.specs.Prelude.{◌≡◌, ◌<◌, Bool, true, false, ◌&&◌, ◌≢◌, ℤ, pos, negsuc, ◌+ℤ◌, ◌-ℤ◌, ◌≤ℤ◌, ◌<ℤ◌, Some, None, Option, int_le, refl}
+use Rattle.std.proofs.Common.{Decides, sym, ap, ◌∙◌, arith}
 use mathlib.Core.HLevel.{is_prop→PathP}
 use Rattle.std.proofs.Math.Dec.{T_prop}
 use Rattle.std.specs.Int.{int_max, int_min}
+use Rattle.std.specs.Ordering.{int_eq}
+use Rattle.kinds.specs.Absence.{option_eq-decides}
 use Rattle.std.proofs.lemmas.Int.{ints, clamps, by_lt_z}
+use Rattle.std.proofs.lemmas.Bool.Decides.{Decides-and, Decides-int_eq}
 use Rattle.statements.specs.Between.{between}
-use Rattle.statements.specs.Numbers.{top, bottom, inside, Within as InsideU, raised, lowered}
+use Rattle.statements.specs.Numbers.{top, bottom, inside, Within, raised, lowered}
 use Rattle.statements.specs.Search.{count, lowest, highest, allows_none}
 use Rattle.statements.specs.Statements.{allowed}
 use Rattle.statements.specs.declared.statement.Statement.{Statement}
 use Rattle.statements.specs.declared.statement.Statement.TheVariants.{Between}
-use Rattle.statements.proofs.Tests.{test_cases, test_clash, test_ext, and_left, and_right, and_made, and_no_right, le_made, le_of, le_no_of, inside_made, inside_of, inside_below, inside_above}
+use Rattle.std.proofs.lemmas.Bool.{and_from, and_parts, and_right}
+use Rattle.statements.proofs.Tests.{test_cases, test_clash, test_ext, le_of, le_no_of, inside_made, inside_of, inside_below, inside_above}
 use Rattle.statements.proofs.Betweens.{inside-least, inside_greatest}
 use Rattle.statements.proofs.Searches.{lowest_le, highest_ge, lowest-some, highest-some, lowest_none, highest_none, allows_none_of, lowest_is, highest_is}
 use Rattle.statements.proofs.Statements.{allowed_within}
 use Rattle.facts.specs.Laws.{Laws, Exact}
 use Rattle.facts.specs.Derived.{low, high}
 use Rattle.facts.proofs.Extensional.{ext_assoc, ext_comm, ext_idem, ext_tells}
-use Rattle.kinds.specs.Span.{span_allows, cut_by, cut, span_stated, span_meet, eq_z, span_equal, span_size, span_model}
+use Rattle.kinds.specs.Span.{span_of, span_allows, cut_by, cut, span_stated, span_meet, span_equal, span_size, span_model}
 use Rattle.kinds.specs.declared.ends.Ends.{Ends}
 use Rattle.kinds.specs.declared.span.Span.{Span}
-use Rattle.kinds.specs.declared.span.Span.TheVariants.{Within, Empty}
 
 -- ---- spans are determined by their numbers
 
@@ -45,19 +48,25 @@ hi_allowed : (e : Ends) → inside e.lo e.hi e.hi ≡ true
 hi_allowed e = inside_made e.lo e.hi e.hi e.order (omega (arith, ints))
 
 pub span_ext : (f g : Span) → ((n : ℤ) → span_allows f n ≡ true → span_allows g n ≡ true) → ((n : ℤ) → span_allows g n ≡ true → span_allows f n ≡ true) → f ≡ g
-span_ext (Within e) (Within d) p q =
-    let a = inside_of d.lo d.hi e.lo (p e.lo (lo_allowed e)) in
-    let b = inside_of d.lo d.hi e.hi (p e.hi (hi_allowed e)) in
-    let a' = inside_of e.lo e.hi d.lo (q d.lo (lo_allowed d)) in
-    let b' = inside_of e.lo e.hi d.hi (q d.hi (hi_allowed d)) in
-    ap Within (ends_ext e d (omega (arith, ints)) (omega (arith, ints)))
-span_ext (Within e) Empty p q = test_clash (p e.lo (lo_allowed e)) refl
-span_ext Empty (Within d) p q = test_clash (q d.lo (lo_allowed d)) refl
-span_ext Empty Empty p q = refl
+span_ext f g = go f.0 g.0
+  where
+    go : (o r : Option Ends) → ((n : ℤ) → span_allows (span_of o) n ≡ true → span_allows (span_of r) n ≡ true) → ((n : ℤ) → span_allows (span_of r) n ≡ true → span_allows (span_of o) n ≡ true) → span_of o ≡ span_of r
+    go (Some e) (Some d) p q =
+        let a = inside_of d.lo d.hi e.lo (p e.lo (lo_allowed e)) in
+        let b = inside_of d.lo d.hi e.hi (p e.hi (hi_allowed e)) in
+        let a' = inside_of e.lo e.hi d.lo (q d.lo (lo_allowed d)) in
+        let b' = inside_of e.lo e.hi d.hi (q d.hi (hi_allowed d)) in
+        ap (λ x. span_of (Some x)) (ends_ext e d (omega (arith, ints)) (omega (arith, ints)))
+    go (Some e) None p q = test_clash (p e.lo (lo_allowed e)) refl
+    go None (Some d) p q = test_clash (q d.lo (lo_allowed d)) refl
+    go None None p q = refl
 
-span_within : (f : Span) → InsideU (span_allows f)
-span_within (Within e) n h = let p = inside_of e.lo e.hi n h in (omega (arith, ints), omega (arith, ints))
-span_within Empty n h = test_clash h refl
+span_within : (f : Span) → Within (span_allows f)
+span_within f = go f.0
+  where
+    go : (o : Option Ends) → Within (span_allows (span_of o))
+    go (Some e) n h = let p = inside_of e.lo e.hi n h in (omega (arith, ints), omega (arith, ints))
+    go None n h = test_clash h refl
 
 -- ---- cut
 
@@ -71,20 +80,20 @@ cut_by-allows lo hi n false e =
 pub cut-allows : (lo hi n : ℤ) → span_allows (cut lo hi) n ≡ between lo hi n
 cut-allows lo hi n = cut_by-allows lo hi n (int_le (raised lo) (lowered hi)) refl
 
-cut_by_is : (lo hi : ℤ) (e : Ends) → e.lo ≡ raised lo → e.hi ≡ lowered hi → (b : Bool) (t : int_le (raised lo) (lowered hi) ≡ b) → Within e ≡ cut_by lo hi b t
+cut_by_is : (lo hi : ℤ) (e : Ends) → e.lo ≡ raised lo → e.hi ≡ lowered hi → (b : Bool) (t : int_le (raised lo) (lowered hi) ≡ b) → span_of (Some e) ≡ cut_by lo hi b t
 unfolding cut_by
-cut_by_is lo hi e p q true t = ap Within (ends_ext e _ p q)
+cut_by_is lo hi e p q true t = ap (λ x. span_of (Some x)) (ends_ext e _ p q)
 cut_by_is lo hi e p q false t = let h = le_no_of (raised lo) (lowered hi) t in absurd (omega (arith, ints))
 
-pub cut_is : (lo hi : ℤ) (e : Ends) → e.lo ≡ raised lo → e.hi ≡ lowered hi → Within e ≡ cut lo hi
+pub cut_is : (lo hi : ℤ) (e : Ends) → e.lo ≡ raised lo → e.hi ≡ lowered hi → span_of (Some e) ≡ cut lo hi
 cut_is lo hi e p q = cut_by_is lo hi e p q _ refl
 
-cut_by_none : (lo hi : ℤ) → lowered hi <ℤ raised lo → (b : Bool) (t : int_le (raised lo) (lowered hi) ≡ b) → Empty ≡ cut_by lo hi b t
+cut_by_none : (lo hi : ℤ) → lowered hi <ℤ raised lo → (b : Bool) (t : int_le (raised lo) (lowered hi) ≡ b) → span_of None ≡ cut_by lo hi b t
 unfolding cut_by
 cut_by_none lo hi h true t = let k = le_of (raised lo) (lowered hi) t in absurd (omega (arith, ints))
 cut_by_none lo hi h false t = refl
 
-pub cut_none : (lo hi : ℤ) → lowered hi <ℤ raised lo → Empty ≡ cut lo hi
+pub cut_none : (lo hi : ℤ) → lowered hi <ℤ raised lo → span_of None ≡ cut lo hi
 cut_none lo hi h = cut_by_none lo hi h _ refl
 
 -- ---- what is stated
@@ -114,7 +123,7 @@ span_exact lo hi n =
     a : ℤ → Bool
     a = between lo hi
 
-    w : InsideU (between lo hi)
+    w : Within (between lo hi)
     w = allowed_within (Between lo hi)
 
     l : ℤ
@@ -131,19 +140,23 @@ span_stated-between lo hi =
 -- ---- merge
 
 span_meet-allows : (f g : Span) (n : ℤ) → span_allows (span_meet f g) n ≡ (span_allows f n && span_allows g n)
-span_meet-allows (Within e) (Within d) n =
-    let lo = int_max e.lo d.lo in
-    let hi = int_min e.hi d.hi in
-    cut-allows lo hi n ∙ test_ext (between lo hi n) (inside e.lo e.hi n && inside d.lo d.hi n)
-    (λ h.
-    let p = inside_of (raised lo) (lowered hi) n h in
-    and_made (inside_made e.lo e.hi n (omega (arith, ints, clamps)) (omega (arith, ints, clamps))) (inside_made d.lo d.hi n (omega (arith, ints, clamps)) (omega (arith, ints, clamps))))
-    (λ h.
-    let p = inside_of e.lo e.hi n (and_left (inside e.lo e.hi n) (inside d.lo d.hi n) h) in
-    let q = inside_of d.lo d.hi n (and_right (inside e.lo e.hi n) (inside d.lo d.hi n) h) in
-    inside_made (raised lo) (lowered hi) n (omega (arith, ints, clamps)) (omega (arith, ints, clamps)))
-span_meet-allows (Within e) Empty n = sym (and_no_right (inside e.lo e.hi n) false refl)
-span_meet-allows Empty g n = refl
+span_meet-allows f g = go f.0 g.0
+  where
+    go : (o r : Option Ends) (n : ℤ) → span_allows (span_meet (span_of o) (span_of r)) n ≡ (span_allows (span_of o) n && span_allows (span_of r) n)
+    go (Some e) (Some d) n =
+        let lo = int_max e.lo d.lo in
+        let hi = int_min e.hi d.hi in
+        cut-allows lo hi n ∙ test_ext (between lo hi n) (inside e.lo e.hi n && inside d.lo d.hi n)
+        (λ h.
+        let p = inside_of (raised lo) (lowered hi) n h in
+        and_from _ _ (inside_made e.lo e.hi n (omega (arith, ints, clamps)) (omega (arith, ints, clamps))) (inside_made d.lo d.hi n (omega (arith, ints, clamps)) (omega (arith, ints, clamps))))
+        (λ h.
+        let b = and_parts (inside e.lo e.hi n) (inside d.lo d.hi n) h in
+        let p = inside_of e.lo e.hi n b.0 in
+        let q = inside_of d.lo d.hi n b.1 in
+        inside_made (raised lo) (lowered hi) n (omega (arith, ints, clamps)) (omega (arith, ints, clamps)))
+    go (Some e) None n = sym (and_right (inside e.lo e.hi n) false refl)
+    go None r n = refl
 
 span_narrower : (lo hi lo' hi' : ℤ) → ((n : ℤ) → between lo hi n ≡ true → between lo' hi' n ≡ true) → span_meet (span_stated (Between lo hi)) (span_stated (Between lo' hi')) ≡ span_stated (Between lo hi)
 span_narrower lo hi lo' hi' h =
@@ -158,7 +171,7 @@ count_is : (z : ℤ) → pos 0 ≤ℤ z → pos (count z) ≡ z
 count_is (pos n) h = refl
 count_is (negsuc n) h = absurd h.le
 
-cut-size : (e d : Ends) (b : Bool) (t : int_le (raised (int_max e.lo d.lo)) (lowered (int_min e.hi d.hi)) ≡ b) → cut_by (int_max e.lo d.lo) (int_min e.hi d.hi) b t ≢ Within e → span_size (cut_by (int_max e.lo d.lo) (int_min e.hi d.hi) b t) < span_size (Within e)
+cut-size : (e d : Ends) (b : Bool) (t : int_le (raised (int_max e.lo d.lo)) (lowered (int_min e.hi d.hi)) ≡ b) → cut_by (int_max e.lo d.lo) (int_min e.hi d.hi) b t ≢ span_of (Some e) → span_size (cut_by (int_max e.lo d.lo) (int_min e.hi d.hi) b t) < span_size (span_of (Some e))
 unfolding cut_by
 cut-size e d true t ne =
     let lo = raised (int_max e.lo d.lo) in
@@ -170,38 +183,28 @@ cut-size e d true t ne =
     (λ h. omega (arith, ints, clamps))
     (λ h. by_lt_z d.hi e.hi
     (λ k. omega (arith, ints, clamps))
-    (λ k. absurd (ne (ap Within (ends_ext _ e (omega (arith, ints, clamps)) (omega (arith, ints, clamps)))))))
+    (λ k. absurd (ne (ap (λ x. span_of (Some x)) (ends_ext _ e (omega (arith, ints, clamps)) (omega (arith, ints, clamps)))))))
 cut-size e d false t ne = let whole = count_is ((e.hi +ℤ pos 1) -ℤ e.lo) (omega (arith, ints)) in omega (arith, ints)
 
 span_size_falls : (f g : Span) → span_meet f g ≢ f → span_size (span_meet f g) < span_size f
-span_size_falls (Within e) (Within d) ne = cut-size e d _ refl ne
-span_size_falls (Within e) Empty ne = let whole = count_is ((e.hi +ℤ pos 1) -ℤ e.lo) (omega (arith, ints)) in omega (arith, ints)
-span_size_falls Empty g ne = absurd (ne refl)
+span_size_falls f g = go f.0 g.0
+  where
+    go : (o r : Option Ends) → span_meet (span_of o) (span_of r) ≢ span_of o → span_size (span_meet (span_of o) (span_of r)) < span_size (span_of o)
+    go (Some e) (Some d) ne = cut-size e d _ refl ne
+    go (Some e) None ne = let whole = count_is ((e.hi +ℤ pos 1) -ℤ e.lo) (omega (arith, ints)) in omega (arith, ints)
+    go None r ne = absurd (ne refl)
 
 -- ---- equality
 
-eq_z_of : (a b : ℤ) → eq_z a b ≡ true → a ≡ b
-eq_z_of a b h = let p = le_of a b (and_left (int_le a b) (int_le b a) h) in let q = le_of b a (and_right (int_le a b) (int_le b a) h) in omega (arith, ints)
+ends_decides : (e d : Ends) → Decides (int_eq e.lo d.lo && int_eq e.hi d.hi) (e ≡ d)
+ends_decides e d =
+    let p = Decides-and (int_eq e.lo d.lo) (int_eq e.hi d.hi) (Decides-int_eq e.lo d.lo) (Decides-int_eq e.hi d.hi) in
+    (λ h. let q = p.0 h in ends_ext e d q.0 q.1, λ h. p.1 (ap (λ x. x.lo) h, ap (λ x. x.hi) h))
 
-eq_z_made : (a b : ℤ) → a ≡ b → eq_z a b ≡ true
-eq_z_made a b h = and_made (le_made a b (omega (arith, ints))) (le_made b a (omega (arith, ints)))
-
-end_of : (Ends → ℤ) → Span → ℤ
-end_of f (Within e) = f e
-end_of f Empty = pos 0
-
-within_empty : (e : Ends) → Within e ≢ Empty
-within_empty e h = let z : ◌≡◌ {A = ℕ} 0 1 = cc in omega arith
-
-span_decides : (f g : Span) → (span_equal f g ≡ true → f ≡ g) × (f ≡ g → span_equal f g ≡ true)
-unfolding end_of
-span_decides (Within e) (Within d) = (
-  λ h. ap Within (ends_ext e d (eq_z_of _ _ (and_left (eq_z e.lo d.lo) (eq_z e.hi d.hi) h)) (eq_z_of _ _ (and_right (eq_z e.lo d.lo) (eq_z e.hi d.hi) h))),
-  λ h. and_made (eq_z_made _ _ (ap (end_of (λ x. x.lo)) h)) (eq_z_made _ _ (ap (end_of (λ x. x.hi)) h)),
-)
-span_decides (Within e) Empty = (λ h. test_clash h refl, λ h. absurd (within_empty e h))
-span_decides Empty (Within d) = (λ h. test_clash h refl, λ h. absurd (within_empty d (sym h)))
-span_decides Empty Empty = (λ h. refl, λ h. refl)
+span_decides : (f g : Span) → Decides (span_equal f g) (f ≡ g)
+span_decides f g =
+    let d = option_eq-decides (λ e d. int_eq e.lo d.lo && int_eq e.hi d.hi) ends_decides f.0 g.0 in
+    (λ h. ap span_of (d.0 h), λ h. d.1 (ap (λ x. x.0) h))
 
 -- ---- the laws
 
@@ -222,12 +225,12 @@ span_laws = record {
 -- ---- lowest and highest
 
 -- The lowest and the highest of a span are its ends.
-pub span-low : (e : Ends) → low span_model (Within e) ≡ e.lo
+pub span-low : (e : Ends) → low span_model (span_of (Some e)) ≡ e.lo
 unfolding low
 span-low e =
-    sym (lowest_is (span_allows (Within e)) (span_within (Within e)) (Some e.lo) (inside-least e.lo e.hi bottom e.lo (omega (arith, ints, clamps)) e.order))
+    sym (lowest_is (span_allows (span_of (Some e))) (span_within (span_of (Some e))) (Some e.lo) (inside-least e.lo e.hi bottom e.lo (omega (arith, ints, clamps)) e.order))
 
-pub span-high : (e : Ends) → high span_model (Within e) ≡ e.hi
+pub span-high : (e : Ends) → high span_model (span_of (Some e)) ≡ e.hi
 unfolding high
 span-high e =
-    sym (highest_is (span_allows (Within e)) (span_within (Within e)) (Some e.hi) (inside_greatest e.lo e.hi top e.hi (omega (arith, ints, clamps)) e.order))
+    sym (highest_is (span_allows (span_of (Some e))) (span_within (span_of (Some e))) (Some e.hi) (inside_greatest e.lo e.hi top e.hi (omega (arith, ints, clamps)) e.order))

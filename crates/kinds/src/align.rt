@@ -6,28 +6,24 @@ ghost use Rattle.kinds.specs.AlignLaws.{align_laws};
 use facts::kind::Kind;
 use statements::residue::Residue;
 use statements::statement::Statement;
+use std::cmp::Ordering;
 
 /// The numbers that leave a rest by a power of two, or no number.
-#[derive(Clone, Copy)]
-pub enum Align {
-    At(Residue),
-    Nothing,
-}
+#[derive(Clone, Copy, PartialEq, Eq, Debug)]
+pub struct Align(pub Option<Residue>);
 
 impl Align {
     // What is known of a number of lo to hi: one number gives its own residue, more give nothing to go by.
     fn spanning(lo: i64, hi: i64) -> Align
         ensures { result ≡ spanning lo hi }
     {
-        if lo < hi {
-            Align::At(Residue { k: 0, r: 0 })
-        } else if lo == hi {
-            Align::At(Residue {
+        match lo.cmp(&hi) {
+            Ordering::Less => Align(Some(Residue { k: 0, r: 0 })),
+            Ordering::Equal => Align(Some(Residue {
                 k: 24,
                 r: lo.rem_euclid(16_777_216) as u32,
-            })
-        } else {
-            Align::Nothing
+            })),
+            Ordering::Greater => Align(None),
         }
     }
 
@@ -35,11 +31,7 @@ impl Align {
     fn finer(a: Residue, b: Residue) -> Align
         ensures { result ≡ finer a b }
     {
-        if a.r % (1 << b.k) == b.r {
-            Align::At(a)
-        } else {
-            Align::Nothing
-        }
+        Align((a.r % (1 << b.k) == b.r).then_some(a))
     }
 }
 
@@ -50,51 +42,31 @@ impl Kind for Align {
 
     fn state(s: Statement) -> Align {
         match s {
-            Statement::Aligned(a) => Align::At(a),
-            _ => Align::spanning(s.lowest(), s.highest()),
+            Statement::Aligned(a) => Align(Some(a)),
+            Statement::Between(..) => Align::spanning(s.lowest(), s.highest()),
         }
     }
 
     fn merge(self, other: Align) -> Align {
-        match self {
-            Align::At(a) => match other {
-                Align::At(b) => {
-                    if b.k <= a.k {
-                        Align::finer(a, b)
-                    } else {
-                        Align::finer(b, a)
-                    }
-                }
-                Align::Nothing => Align::Nothing,
-            },
-            Align::Nothing => Align::Nothing,
+        let (Some(a), Some(b)) = (self.0, other.0) else {
+            return Align(None);
+        };
+        if b.k <= a.k {
+            Align::finer(a, b)
+        } else {
+            Align::finer(b, a)
         }
     }
 
     fn next(self, n: i64) -> Option<i64> {
-        match self {
-            Align::At(a) => a.least_from(n),
-            Align::Nothing => None,
-        }
+        self.0?.least_from(n)
     }
 
     fn last(self, n: i64) -> Option<i64> {
-        match self {
-            Align::At(a) => a.greatest_to(n),
-            Align::Nothing => None,
-        }
+        self.0?.greatest_to(n)
     }
 
     fn same(self, other: Align) -> bool {
-        match self {
-            Align::At(a) => match other {
-                Align::At(b) => a.k == b.k && a.r == b.r,
-                Align::Nothing => false,
-            },
-            Align::Nothing => match other {
-                Align::At(_) => false,
-                Align::Nothing => true,
-            },
-        }
+        self == other
     }
 }

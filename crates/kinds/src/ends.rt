@@ -3,7 +3,7 @@ ghost use Rattle.std.specs.Prelude.{◌≤ℤ◌};
 ghost use Rattle.statements.specs.Numbers.{top, bottom};
 
 /// The ends of a run of numbers of U that is not empty.
-#[derive(Clone, Copy)]
+#[derive(Clone, Copy, PartialEq, Eq, Debug)]
 pub struct Ends {
     pub lo: i64,
     pub hi: i64,

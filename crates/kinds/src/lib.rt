@@ -31,10 +31,13 @@ mod tests {
 
     #[test]
     fn aligns_merge(rt: HostRuntime) {
-        let f = Align::At(Residue { k: 3, r: 0 });
-        assert!(rt; f.merge(Align::At(Residue { k: 2, r: 0 })).same(f));
+        let f = Align(Some(Residue { k: 3, r: 0 }));
+        assert!(rt; f.merge(Align(Some(Residue { k: 2, r: 0 }))).same(f));
         assert!(rt;
-            allows_none(Align::At(Residue { k: 3, r: 4 }).merge(Align::At(Residue { k: 2, r: 2, })))
+            allows_none(Align(Some(Residue { k: 3, r: 4 })).merge(Align(Some(Residue {
+                k: 2,
+                r: 2,
+            }))))
         );
     }
 

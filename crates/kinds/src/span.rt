@@ -1,7 +1,7 @@
 // The kind Span: two ends, or none. It is exact.
 ghost use Rattle.std.specs.Prelude.{◌≡◌};
 ghost use Rattle.kinds.specs.Span.{cut, span_model};
-ghost use Rattle.kinds.specs.SpanLaws.{span_laws};
+ghost use Rattle.kinds.specs.SpanLaws.{span_laws, span_exact};
 
 use crate::ends::Ends;
 use facts::exact::ExactKind;
@@ -10,11 +10,8 @@ use statements::numbers::{lowered, raised};
 use statements::statement::Statement;
 
 /// The numbers from one end to the other, or no number.
-#[derive(Clone, Copy)]
-pub enum Span {
-    Within(Ends),
-    Empty,
-}
+#[derive(Clone, Copy, PartialEq, Eq, Debug)]
+pub struct Span(pub Option<Ends>);
 
 impl Span {
     /// The numbers of U from lo to hi.
@@ -24,9 +21,9 @@ impl Span {
         let lo = raised(lo);
         let hi = lowered(hi);
         if lo <= hi {
-            Span::Within(Ends { lo, hi })
+            Span(Some(Ends { lo, hi }))
         } else {
-            Span::Empty
+            Span(None)
         }
     }
 }
@@ -41,50 +38,32 @@ impl Kind for Span {
     }
 
     fn merge(self, other: Span) -> Span {
-        match self {
-            Span::Within(e) => match other {
-                Span::Within(d) => Span::cut(e.lo.max(d.lo), e.hi.min(d.hi)),
-                Span::Empty => Span::Empty,
-            },
-            Span::Empty => Span::Empty,
-        }
+        let (Some(e), Some(d)) = (self.0, other.0) else {
+            return Span(None);
+        };
+        Span::cut(e.lo.max(d.lo), e.hi.min(d.hi))
     }
 
     fn next(self, n: i64) -> Option<i64> {
-        match self {
-            Span::Within(e) => {
-                let v = n.max(e.lo);
-                if v <= e.hi { Some(v) } else { None }
-            }
-            Span::Empty => None,
-        }
+        let e = self.0?;
+        let v = n.max(e.lo);
+        (v <= e.hi).then_some(v)
     }
 
     fn last(self, n: i64) -> Option<i64> {
-        match self {
-            Span::Within(e) => {
-                let v = n.min(e.hi);
-                if e.lo <= v { Some(v) } else { None }
-            }
-            Span::Empty => None,
-        }
+        let e = self.0?;
+        let v = n.min(e.hi);
+        (e.lo <= v).then_some(v)
     }
 
     fn same(self, other: Span) -> bool {
-        match self {
-            Span::Within(e) => match other {
-                Span::Within(d) => e.lo == d.lo && e.hi == d.hi,
-                Span::Empty => false,
-            },
-            Span::Empty => match other {
-                Span::Within(_) => false,
-                Span::Empty => true,
-            },
-        }
+        self == other
     }
 }
 
 impl ExactKind for Span {
+    ghost exact = { span_exact };
+
     fn exactly(lo: i64, hi: i64) -> Span {
         Span::cut(lo, hi)
     }

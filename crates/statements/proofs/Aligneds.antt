@@ -3,12 +3,12 @@ use Rattle.std.proofs.Common.{◌≡◌, ◌^◌, true, false, eqb, ℤ, pos, �
 use Rattle.std.specs.Bool.{then_some}
 use Rattle.std.specs.Prelude.{int_le}
 use Rattle.std.proofs.lemmas.Int.{ints, clamps, by_lt_z}
-use Rattle.std.proofs.lemmas.Bool.{eqb-true, eq-eqb}
+use Rattle.std.proofs.lemmas.Bool.{and_from, and_parts, eq-eqb, eqb-true, false_from_ne_true}
 use Rattle.statements.specs.Numbers.{top, bottom, inside, InU, Within, raised, lowered}
 use Rattle.statements.specs.Search.{LeastFrom, GreatestTo}
 use Rattle.statements.specs.Aligned.{multiple, aligned, rest}
 use Rattle.statements.specs.declared.residue.Residue.{Residue}
-use Rattle.statements.proofs.Tests.{test_no, test_ext, then_some_both, le_of, le_no_of, and_left, and_right, and_made, inside_made, inside_of}
+use Rattle.statements.proofs.Tests.{test_ext, then_some_both, le_of, le_no_of, inside_made, inside_of}
 use Rattle.statements.proofs.Multiples.{Multiple, multiple_of, multiple_made, multiple-gap, multiple_neg, rest_below, rest-multiple, rest_unique}
 
 module _ (a : Residue) where
@@ -16,10 +16,10 @@ module _ (a : Residue) where
   aligned_of n e =
       let u = inside bottom top n in
       let m = multiple (2 ^ a.k) (n -ℤ pos a.r) in
-      (inside_of bottom top n (and_left u m e), multiple_of (2 ^ a.k) (n -ℤ pos a.r) (and_right u m e))
+      (inside_of bottom top n (and_parts u m e).0, multiple_of (2 ^ a.k) (n -ℤ pos a.r) (and_parts u m e).1)
 
   pub aligned_made : (n : ℤ) → InU n → Multiple (2 ^ a.k) (n -ℤ pos a.r) → aligned a n ≡ true
-  aligned_made n u m = and_made (inside_made bottom top n u.0 u.1) (multiple_made (2 ^ a.k) (n -ℤ pos a.r) m)
+  aligned_made n u m = and_from _ _ (inside_made bottom top n u.0 u.1) (multiple_made (2 ^ a.k) (n -ℤ pos a.r) m)
 
   pub aligned_within : Within (aligned a)
   aligned_within n e = (aligned_of n e).0
@@ -53,7 +53,7 @@ module _ (a : Residue) where
         subst (Multiple d) e (multiple_neg d _ (rest-multiple d z (pow_pos a.k)))
 
     passed_up : (m : ℤ) → n ≤ℤ m → m <ℤ v → aligned a m ≡ false
-    passed_up m h l = test_no (aligned a m) (λ e.
+    passed_up m h l = false_from_ne_true (aligned a m) (λ e.
         let d = 2 ^ a.k in
         let p = aligned_of m e in
         let u = p.0 in
@@ -66,7 +66,7 @@ module _ (a : Residue) where
 
     pub aligned_no_least : top <ℤ v → LeastFrom (aligned a) n None
     aligned_no_least h m k =
-        by_lt_z m v (λ l. passed_up m k l) (λ l. test_no (aligned a m) (λ e. let u = aligned_within m e in omega (arith, ints)))
+        by_lt_z m v (λ l. passed_up m k l) (λ l. false_from_ne_true (aligned a m) (λ e. let u = aligned_within m e in omega (arith, ints)))
 
     -- What the code answers: v, kept where it is a number of U.
     pub aligned_first : (o : Option ℤ) → o ≡ then_some (int_le v top) v → LeastFrom (aligned a) n o
@@ -83,7 +83,7 @@ module _ (a : Residue) where
         subst (Multiple d) e (rest-multiple d z (pow_pos a.k))
 
     passed_down : (m : ℤ) → m ≤ℤ n → v <ℤ m → aligned a m ≡ false
-    passed_down m h l = test_no (aligned a m) (λ e.
+    passed_down m h l = false_from_ne_true (aligned a m) (λ e.
         let d = 2 ^ a.k in
         let p = aligned_of m e in
         let u = p.0 in
@@ -96,7 +96,7 @@ module _ (a : Residue) where
 
     pub aligned_no_greatest : v <ℤ bottom → GreatestTo (aligned a) n None
     aligned_no_greatest h m k =
-        by_lt_z v m (λ l. passed_down m k l) (λ l. test_no (aligned a m) (λ e. let u = aligned_within m e in omega (arith, ints)))
+        by_lt_z v m (λ l. passed_down m k l) (λ l. false_from_ne_true (aligned a m) (λ e. let u = aligned_within m e in omega (arith, ints)))
 
     -- What the code answers: v, kept where it is a number of U.
     pub aligned_last : (o : Option ℤ) → o ≡ then_some (int_le bottom v) v → GreatestTo (aligned a) n o

@@ -4,7 +4,8 @@ use Rattle.std.specs.Option.{is_none, unwrap_or}
 use Rattle.std.proofs.lemmas.Int.{ints, clamps, by_lt_z}
 use Rattle.statements.specs.Numbers.{top, bottom, InU, Within, raised, lowered}
 use Rattle.statements.specs.Search.{LeastFrom, GreatestTo, seek_up, seek_down, count, least_from, greatest_to, lowest, highest, allows_none}
-use Rattle.statements.proofs.Tests.{test_clash, test_no, test_cases}
+use Rattle.std.proofs.lemmas.Bool.{false_from_ne_true}
+use Rattle.statements.proofs.Tests.{test_clash, test_cases}
 
 count_le : (z : ℤ) → z ≤ℤ pos (count z)
 count_le (pos n) = omega (arith, ints)
@@ -13,10 +14,10 @@ count_le (negsuc n) = omega (arith, ints)
 -- A number outside U is not allowed.
 module _ (a : ℤ → Bool) (w : Within a) (m : ℤ) where
   below_no : m <ℤ bottom → a m ≡ false
-  below_no h = test_no (a m) (λ e. let u = w m e in omega (arith, ints))
+  below_no h = false_from_ne_true (a m) (λ e. let u = w m e in omega (arith, ints))
 
   above_no : top <ℤ m → a m ≡ false
-  above_no h = test_no (a m) (λ e. let u = w m e in omega (arith, ints))
+  above_no h = false_from_ne_true (a m) (λ e. let u = w m e in omega (arith, ints))
 
 -- ---- least and greatest are found by the search
 
@@ -241,7 +242,7 @@ module _ (a : ℤ → Bool) (w : Within a) where
       go None p = test_clash e (p n (w n e).0)
 
   pub allows_none_of : allows_none a ≡ true → (n : ℤ) → a n ≡ false
-  allows_none_of h n = test_no (a n) (λ e. test_clash h (allows_none_no n e))
+  allows_none_of h n = false_from_ne_true (a n) (λ e. test_clash h (allows_none_no n e))
 
   -- What does not allow none allows its lowest and its highest.
   pub lowest-some : allows_none a ≡ false → a (lowest a) ≡ true

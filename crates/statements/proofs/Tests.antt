@@ -1,6 +1,7 @@
 -- Tests as facts: yes and no, and the order of whole numbers.
 use Rattle.std.proofs.Common.{◌≡◌, Bool, true, false, ◌&&◌, T, Some, None, Option, ℤ, ◌≤ℤ◌, ◌<ℤ◌, sym, refl, ◌∙◌, subst, arith}
 use lib.Signed.{le_z}
+use Rattle.std.proofs.lemmas.Bool.{and_parts}
 use Rattle.std.specs.Bool.{then_some}
 use Rattle.std.proofs.lemmas.Int.{ints, clamps}
 use Rattle.statements.specs.Numbers.{top, bottom, inside, raised, lowered}
@@ -39,13 +40,6 @@ pub and_right : (a b : Bool) → (a && b) ≡ true → b ≡ true
 and_right true b e = e
 and_right false b e = test_clash e refl
 
-pub and_no_left : (a b : Bool) → a ≡ false → (a && b) ≡ false
-and_no_left a b e = subst (λ x. (x && b) ≡ false) (sym e) refl
-
-pub and_no_right : (a b : Bool) → b ≡ false → (a && b) ≡ false
-and_no_right true b e = e
-and_no_right false b e = refl
-
 -- What holds of Some x where the test is yes, and of None where it is no, holds of what `then_some` gives.
 pub then_some_both : {A : Type 0} (P : Option A → Type 0) (b : Bool) (x : A) → (b ≡ true → P (Some x)) → (b ≡ false → P None) → P (then_some b x)
 then_some_both P true x p q = p refl
@@ -66,16 +60,16 @@ pub le_no_of : (a b : ℤ) → le_z a b ≡ false → b <ℤ a
 le_no_of a b h = grind (arith, ints)
 
 pub inside_made : (lo hi n : ℤ) → lo ≤ℤ n → n ≤ℤ hi → inside lo hi n ≡ true
-inside_made lo hi n p q = and_made (le_made lo n p) (le_made n hi q)
+inside_made lo hi n p q = grind (arith, ints)
 
 pub inside_of : (lo hi n : ℤ) → inside lo hi n ≡ true → (lo ≤ℤ n) × (n ≤ℤ hi)
-inside_of lo hi n e = (le_of lo n (and_left (le_z lo n) (le_z n hi) e), le_of n hi (and_right (le_z lo n) (le_z n hi) e))
+inside_of lo hi n e = let p = and_parts (le_z lo n) (le_z n hi) e in (le_of lo n p.0, le_of n hi p.1)
 
 pub inside_below : (lo hi n : ℤ) → n <ℤ lo → inside lo hi n ≡ false
-inside_below lo hi n h = and_no_left (le_z lo n) (le_z n hi) (le_no lo n h)
+inside_below lo hi n h = grind (arith, ints)
 
 pub inside_above : (lo hi n : ℤ) → hi <ℤ n → inside lo hi n ≡ false
-inside_above lo hi n h = and_no_right (le_z lo n) (le_z n hi) (le_no n hi h)
+inside_above lo hi n h = grind (arith, ints)
 
 -- ---- clamping
 

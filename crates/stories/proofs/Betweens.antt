@@ -1,10 +1,10 @@
 -- In an exact kind: what a fact of one Between becomes when told another.
 use Rattle.std.proofs.Common.{◌≡◌, true, false, ℤ, ◌≤ℤ◌, sym, refl, ◌∙◌, subst, ap₂, arith}
 use Rattle.std.proofs.lemmas.Int.{ints, clamps}
-use Rattle.std.proofs.lemmas.Bool.{and_parts}
+use Rattle.std.proofs.lemmas.Bool.{and_from, and_parts, false_from_ne_true}
 use Rattle.statements.specs.Numbers.{top, bottom, InU, raised, lowered}
 use Rattle.statements.specs.declared.statement.Statement.TheVariants.{Between}
-use Rattle.statements.proofs.Tests.{test_cases, test_no, and_made, inside_made, inside_of}
+use Rattle.statements.proofs.Tests.{test_cases, inside_made, inside_of}
 use Rattle.facts.specs.Model.{Model}
 use Rattle.facts.specs.Laws.{Laws, Exact}
 use Rattle.facts.specs.Derived.{low, high, none, tidy, dead, told}
@@ -66,7 +66,7 @@ module _ {F : Type 0} (m : Model F) (l : Laws m) (exact : Exact m) where
       let g = B c d in
       let x = m.meet f g in
       let yes : (n : ℤ) → InU n → a ≤ℤ n → n ≤ℤ b → c ≤ℤ n → n ≤ℤ d → m.allows x n ≡ true =
-      λ n u p₁ p₂ p₃ p₄. l.meet_allows f g n ∙ and_made (allows_made a b n u p₁ p₂) (allows_made c d n u p₃ p₄) in
+      λ n u p₁ p₂ p₃ p₄. l.meet_allows f g n ∙ and_from _ _ (allows_made a b n u p₁ p₂) (allows_made c d n u p₃ p₄) in
       let both : (n : ℤ) → m.allows x n ≡ true → (lo ≤ℤ n) × (n ≤ℤ hi) =
       λ n e.
       let parts = and_parts (m.allows f n) (m.allows g n) (sym (l.meet_allows f g n) ∙ e) in
@@ -99,10 +99,10 @@ module _ {F : Type 0} (m : Model F) (l : Laws m) (exact : Exact m) where
 
   -- Facts that differ at a number are not equal.
   pub equal_no : (f g : F) (n : ℤ) → m.allows f n ≡ true → (m.allows g n ≡ true → ⊥) → m.equal f g ≡ false
-  equal_no f g n p q = test_no (m.equal f g) (λ e. q (subst (λ z. m.allows z n ≡ true) ((l.equal_decides f g).0 e) p))
+  equal_no f g n p q = false_from_ne_true (m.equal f g) (λ e. q (subst (λ z. m.allows z n ≡ true) ((l.equal_decides f g).0 e) p))
 
   pub equal_no_right : (f g : F) (n : ℤ) → (m.allows f n ≡ true → ⊥) → m.allows g n ≡ true → m.equal f g ≡ false
-  equal_no_right f g n p q = test_no (m.equal f g) (λ e. p (subst (λ z. m.allows z n ≡ true) (sym ((l.equal_decides f g).0 e)) q))
+  equal_no_right f g n p q = false_from_ne_true (m.equal f g) (λ e. p (subst (λ z. m.allows z n ≡ true) (sym ((l.equal_decides f g).0 e)) q))
 
   pub equal_yes : (f : F) → m.equal f f ≡ true
   equal_yes f = (l.equal_decides f f).1 refl

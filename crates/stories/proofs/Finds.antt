@@ -1,5 +1,6 @@
 -- A history with a conflict, a lift, a quiet run and a search that finds.
-use Rattle.std.proofs.Common.{◌≡◌, ◌+◌, Bool, true, false, cond, not, ◌||◌, eqb, List, [], Some, None, refl, ap, ◌∙◌, subst, arith}
+use Rattle.std.proofs.Common.{◌≡◌, ◌+◌, true, false, cond, not, ◌||◌, eqb, List, [], Some, None, refl, ap, ◌∙◌, subst, ap₂, arith}
+use Rattle.std.proofs.Math.Bool.{or-false}
 use mathlib.Core.Path.{fun_ext}
 use Rattle.std.proofs.lemmas.Bool.{cond-true}
 use Rattle.facts.specs.Model.{Model}
@@ -36,11 +37,6 @@ f₂ = upd f₁ 2 true
 abbrev f₃ : Premises
 f₃ = upd f₂ 2 false
 
-clash_names : (a b : Bool) → ((a || false) || (b || false)) ≡ (a || b)
-clash_names true b = refl
-clash_names false true = refl
-clash_names false false = refl
-
 module _ {F : Type 0} (m : Model F) (l : Laws m) (exact : Exact m) where
   -- ---- up to the conflict
 
@@ -74,7 +70,7 @@ module _ {F : Type 0} (m : Model F) (l : Laws m) (exact : Exact m) where
   s₅ = step_fires m l f₂ 2 high_one b₄ (narrowed m l exact) (clashed m l exact) true false true true refl refl s₄ (narrowed_clashes m l exact b₄.table s₄.cell_is) (ap not (narrowed_changed m l exact))
 
   names_both : premises_of (b₅.table 0).reasons ≡ pair 0 2
-  names_both = fun_ext (λ p. ap (λ (c : Cell F). c.reasons (premise p)) s₅.cell_is ∙ clash_names (eqb p 0) (eqb p 2))
+  names_both = fun_ext (λ p. ap (λ (c : Cell F). c.reasons (premise p)) s₅.cell_is ∙ ap₂ ◌||◌ (or-false (eqb p 0)) (or-false (eqb p 2)))
 
   ran_clash : Run m net f₂ 9 b₃ (conflict (pair 0 2)) 2 b₅
   ran_clash =

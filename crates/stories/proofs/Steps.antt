@@ -3,6 +3,7 @@ use Rattle.std.proofs.Common.{◌≡◌, ℕ, zero, suc, Bool, true, false, cond
 use mathlib.Core.Path.{fun_ext}
 use lib.Signed.{lt_z}
 use Rattle.std.specs.List.{slice_get, AllByRecursion}
+use Rattle.std.proofs.Math.Bool.{or-false, or_self}
 use Rattle.std.proofs.lemmas.Bool.{cond_both, cond-true, cond-false, or_from, and_right}
 use Rattle.statements.specs.Numbers.{top}
 use Rattle.statements.specs.declared.statement.Statement.TheVariants.{Between}
@@ -45,14 +46,6 @@ mine p = together (premises_only (owned_by (Some p))) no_reasons
 abbrev pub hers : Reasons → Reasons
 hers r = together (premises_only (owned_by (Some 1))) (together r (together r (together r no_reasons)))
 
-or_nothing : (a : Bool) → (a || false) ≡ a
-or_nothing true = refl
-or_nothing false = refl
-
-or_twice : (a : Bool) → (a || (a || false)) ≡ a
-or_twice true = refl
-or_twice false = refl
-
 -- What waits once cell 0 has changed, or not.
 abbrev pub next : Premises → Bool → Members → Members
 next force hit w = three (w 0 || (in_force force low_one && hit)) (w 1 || (in_force force off_itself && hit)) (w 2 || (in_force force high_one && hit))
@@ -62,9 +55,9 @@ unfolding any
 woken_next force cells w hit e none = fun_ext go
   where
     go : (j : ℕ) → woken net force cells w j ≡ next force hit w j
-    go zero = ap (λ z. w 0 || (in_force force low_one && z)) (or_nothing (cells 0) ∙ e)
-    go (suc zero) = ap (λ z. w 1 || (in_force force off_itself && z)) (or_twice (cells 0) ∙ e)
-    go (suc (suc zero)) = ap (λ z. w 2 || (in_force force high_one && z)) (or_nothing (cells 0) ∙ e)
+    go zero = ap (λ z. w 0 || (in_force force low_one && z)) (or-false (cells 0) ∙ e)
+    go (suc zero) = ap (λ z. w 1 || (in_force force off_itself && z)) (ap (λ b. cells 0 || b) (or-false (cells 0)) ∙ or_self (cells 0) ∙ e)
+    go (suc (suc zero)) = ap (λ z. w 2 || (in_force force high_one && z)) (or-false (cells 0) ∙ e)
     go (suc (suc (suc n))) = or_from (w (suc (suc (suc n)))) false (none n) refl
 
 -- The board has this cell, and these numbers wait.

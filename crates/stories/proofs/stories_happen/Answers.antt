@@ -4,5 +4,7 @@ use Rattle.stories.proofs.stories_happen.Goals as goal
 
 pub returns : goal.returns
 returns g c =
-    let exact = c.exactly.ensures.exact in
-    (finding g.K.Kind.model g.met.K.Kind.lawful exact, failing g.K.Kind.model g.met.K.Kind.lawful exact)
+    let m = g.K.Kind.model in
+    let laws = g.met.K.Kind.lawful in
+    let exact = g.met.K.ExactKind.exact in
+    (finding m laws exact, failing m laws exact)

@@ -1,10 +1,10 @@
 use Rattle.std.proofs.Common.{◌≡◌, ℕ, List, [], ◌∷◌, map, ℤ, pos, negsuc, ◌+ℤ◌, ◌-ℤ◌, None, refl, ap, ◌∙◌, ap₂}
 use lib.Signed.{lt_z}
+use Rattle.std.proofs.lemmas.List.Elements.{All-from_recursion}
 use Rattle.statements.specs.Numbers.{top, bottom}
 use Rattle.statements.specs.declared.statement.Statement.TheVariants.{Between}
-use Rattle.kinds.specs.Span.{cut, cut_by, span_meet, span_model, span_stated}
+use Rattle.kinds.specs.Span.{cut, cut_by, span_of, span_meet, span_model, span_stated}
 use Rattle.kinds.specs.declared.span.Span.{Span}
-use Rattle.kinds.specs.declared.span.Span.TheVariants.{Empty}
 use Rattle.kinds.specs.SpanLaws.{span-low, span-high, span_stated-between}
 use Rattle.plan.specs.Placements.{Premises, owned_by}
 use Rattle.plan.specs.declared.constraint.Constraint.{Constraint}
@@ -12,7 +12,7 @@ use Rattle.plan.specs.declared.constraint.Form.{Form}
 use Rattle.plan.specs.declared.constraint.Form.TheVariants.{Sum, Apart}
 use Rattle.telling.specs.Tables.{upd, facts, bare}
 use Rattle.telling.specs.Firing.{fired}
-use Rattle.cells_tests.specs.Examples.{row, span}
+use Rattle.cells_tests.specs.Examples.{Holds, examples, row, span}
 use Rattle.cells_tests.proofs.Spans.{span-some, span_empty, tells-end, tells-step, tells_skip, tells_stop, fired-tells}
 use Rattle.cells_tests.proofs.examples.examples_hold.Goals as goal
 
@@ -76,15 +76,15 @@ apart-fired =
 abbrev past₀ : ℕ → Span
 past₀ = row (cut top top ∷ span 1 1 ∷ [])
 
-past-fired : facts (fired span_model (free (Sum 0 1 2)) (bare past₀)) ≡ upd past₀ 2 Empty
+past-fired : facts (fired span_model (free (Sum 0 1 2)) (bare past₀)) ≡ upd past₀ 2 (span_of None)
 unfolding cut_by
 past-fired =
-    fired-tells (free (Sum 0 1 2)) (bare past₀) (upd past₀ 2 Empty) (span-some _, (span-some _, (span-some _, tt)))
-    (tells_stop unowned _ _ (bare past₀) past₀ (upd past₀ 2 Empty) refl Empty refl (met (cut bottom top) (pos 4294967296) (pos 4294967296) (ap₂ ◌+ℤ◌ (span-low _) (span-low _)) (ap₂ ◌+ℤ◌ (span-high _) (span-high _))) span_empty)
+    fired-tells (free (Sum 0 1 2)) (bare past₀) (upd past₀ 2 (span_of None)) (span-some _, (span-some _, (span-some _, tt)))
+    (tells_stop unowned _ _ (bare past₀) past₀ (upd past₀ 2 (span_of None)) refl (span_of None) refl (met (cut bottom top) (pos 4294967296) (pos 4294967296) (ap₂ ◌+ℤ◌ (span-low _) (span-low _)) (ap₂ ◌+ℤ◌ (span-high _) (span-high _))) span_empty)
 
 -- The cells of a list, of facts that are equal.
 at : {φ ψ : ℕ → Span} (xs : List ℕ) → φ ≡ ψ → map φ xs ≡ map ψ xs
 at xs e = ap (λ χ. map χ xs) e
 
 pub returns : goal.returns
-returns c = (at (0 ∷ 1 ∷ 2 ∷ []) sum_fired, (at (0 ∷ 1 ∷ []) apart-fired, (at (0 ∷ 1 ∷ 2 ∷ []) past-fired, tt)))
+returns c = All-from_recursion Holds examples (at (0 ∷ 1 ∷ 2 ∷ []) sum_fired, (at (0 ∷ 1 ∷ []) apart-fired, (at (0 ∷ 1 ∷ 2 ∷ []) past-fired, tt)))

@@ -1,0 +1,13 @@
+-- The greatest number of a span from n down.
+use Rattle.std.proofs.Common.{sym, subst, arith, w64, to_z, of_z}
+use Rattle.std.proofs.lemmas.Int.{ints, clamps}
+use Rattle.statements.specs.Search.{GreatestTo}
+use Rattle.statements.proofs.Betweens.{inside_last}
+use Rattle.kinds.specs.Span.{span_of, span_allows}
+use Rattle.kinds.proofs.span.SpanKind.last.Goals as goal
+
+pub returns : goal.returns
+returns c =
+    let e = c.in_ok-e.e in
+    subst (λ o. GreatestTo (span_allows (span_of o)) c.args.n c.then_some.result) (sym c.in_ok-e.was)
+    (inside_last e.lo e.hi c.args.n (to_z w64 (of_z w64 c.min-v.result)) (to_z w64 (of_z w64 e.lo)) _ c.then_some.ensures (omega (arith, ints, clamps)) (omega (arith, ints)))
