@@ -1,6 +1,6 @@
 -- When the owner of a constraint lies within the premises in force.
-use Rattle.std.proofs.Common.{◌≡◌, ℕ, zero, suc, ◌<◌, ◌≤◌, Bool, true, false, not, ◌&&◌, ◌||◌, eqb, Some, None, refl, ap, ◌∙◌, ⊎_elim, arith}
-use Rattle.std.proofs.lemmas.Bool.{cases_eq, eq-eqb, ne_eqb}
+use Rattle.std.proofs.Common.{◌≡◌, ℕ, zero, suc, ◌<◌, ◌≤◌, Bool, true, false, cond, not, ◌&&◌, ◌||◌, eqb, ltb, Some, None, Option, sym, refl, ap, ◌∙◌, ⊎_elim, arith}
+use Rattle.std.proofs.lemmas.Bool.{cases_eq, cases_lt, eq-eqb, ne_eqb, lt-ltb, le-ltb}
 use Rattle.sets.specs.Members.{Members, inside}
 use Rattle.plan.specs.Placements.{Premises, owned_by}
 use Rattle.plan.specs.declared.constraint.Constraint.{Constraint}
@@ -35,17 +35,20 @@ inside_one s p (suc n) l =
     last : n ≡ p → (s n && inside (λ j. eqb j p) s n) ≡ s p
     last e = drop-true (s n) _ (inside_past s p n (omega arith)) ∙ ap s e
 
--- A constraint without an owner is in force.
-pub force_none : (s : Premises) (k : Constraint) → k.owner ≡ None → in_force s k ≡ true
-unfolding in_force
-force_none s k e = ap (λ o. inside (owned_by o) s 32) e ∙ inside_none s 32
+-- What an owner asks of the premises in force: an owner from 32 on is no premise.
+abbrev pub asked : Premises → Option ℕ → Bool
+asked s None = true
+asked s (Some p) = cond (ltb p 32) (s p) true
 
--- So is one whose owner is no premise.
-pub force-past : (s : Premises) (k : Constraint) (p : ℕ) → k.owner ≡ Some p → 32 ≤ p → in_force s k ≡ true
+-- A constraint is in force where its owner's question has the answer yes.
+pub force-asked : (s : Premises) (k : Constraint) → in_force s k ≡ asked s k.owner
 unfolding in_force
-force-past s k p e l = ap (λ o. inside (owned_by o) s 32) e ∙ inside_past s p 32 l
-
--- An owned constraint is in force with its owner.
-pub force_one : (s : Premises) (k : Constraint) (p : ℕ) → k.owner ≡ Some p → p < 32 → in_force s k ≡ s p
-unfolding in_force
-force_one s k p e l = ap (λ o. inside (owned_by o) s 32) e ∙ inside_one s p 32 l
+force-asked s k = go k.owner
+  where
+    go : (o : Option ℕ) → inside (owned_by o) s 32 ≡ asked s o
+    go None = inside_none s 32
+    go (Some p) =
+        ⊎_elim
+        (λ l. inside_one s p 32 l ∙ sym (ap (λ b. cond b (s p) true) (lt-ltb p 32 l)))
+        (λ g. inside_past s p 32 g ∙ sym (ap (λ b. cond b (s p) true) (le-ltb p 32 g)))
+        (cases_lt p 32)

@@ -1,6 +1,4 @@
 -- The lemmas on the index.
-mod Parts
 mod Naming
 mod Waking
 mod Force
-mod Copies

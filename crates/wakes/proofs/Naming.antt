@@ -1,29 +1,23 @@
 -- Which constraints name a cell: what a read tells of it, and that none names a cell that there is not.
-use Rattle.std.proofs.Common.{◌≡◌, ℕ, zero, suc, ◌<◌, ◌≤◌, Bool, true, false, cond, ◌&&◌, ◌||◌, eqb, ltb, List, [], ◌∷◌, ◌++◌, length, get_or, None, Option, sym, refl, ap, ◌∙◌, ⊎_elim, append-nil, arith}
-use mathlib.Core.Bool.{or-false}
-use Rattle.std.specs.List.{slice_get}
+use Rattle.std.proofs.Common.{◌≡◌, ℕ, zero, suc, ◌+◌, ◌<◌, ◌≤◌, Bool, true, false, cond, ◌&&◌, ◌||◌, eqb, ltb, List, [], ◌∷◌, ◌++◌, length, map, get_or, None, Option, sym, refl, ap, ◌∙◌, ⊎_elim, append-nil, arith}
+use Rattle.std.specs.List.{list_any, range_with_len, slice_get}
+use Rattle.std.proofs.lemmas.List.{get_or_past}
+use Rattle.std.proofs.lemmas.List.FromFn.{get_or-map-range_with_len, length-map-range_with_len}
 use Rattle.std.proofs.lemmas.Option.{slice_get_read, slice_get_past}
 use Rattle.std.proofs.lemmas.Bool.{cases_lt, lt-ltb, ltb-true, ne_eqb, and_parts, and_right}
 use Rattle.sets.specs.Members.{Members, Nobody, listed}
+use Rattle.sets.proofs.Lists.{listed_more}
 use Rattle.plan.specs.Forms.{named}
 use Rattle.plan.specs.Known.{all_below, all_known}
 use Rattle.plan.specs.declared.constraint.Constraint.{Constraint}
 use Rattle.telling.specs.Tables.{any}
 use Rattle.wakes.specs.Naming.{mentions, naming}
 
--- A number, of one, of two or of three.
-module _ (p : ℕ → Bool) where
-  pub any_one : (a : ℕ) → p a ≡ any p (a ∷ [])
-  unfolding any
-  any_one a = sym (or-false (p a))
-
-  pub any_two : (a b : ℕ) → (p a || p b) ≡ any p (a ∷ b ∷ [])
-  unfolding any
-  any_two a b = ap (λ r. p a || r) (sym (or-false (p b)))
-
-  pub any_three : (a b c : ℕ) → (p a || (p b || p c)) ≡ any p (a ∷ b ∷ c ∷ [])
-  unfolding any
-  any_three a b c = ap (λ r. p a || (p b || r)) (sym (or-false (p c)))
+-- Whether some element passes is what the library's test says.
+pub any-list : {A : Type 0} (p : A → Bool) (xs : List A) → any p xs ≡ list_any p xs
+unfolding any
+any-list p [] = refl
+any-list p (x ∷ xs) = ap (λ b. p x || b) (any-list p xs)
 
 -- A read of a constraint tells whether it names the cell.
 pub naming-read : (ks : List Constraint) (cell i : ℕ) (k : Constraint) → i < length ks → k ≡ get_or ks i k → any (λ x. eqb x cell) (named k.form) ≡ naming ks cell i
@@ -59,3 +53,22 @@ pub listed_nobody : (s : Members) (n : ℕ) → Nobody s → listed s n ≡ []
 unfolding listed
 listed_nobody s zero none = refl
 listed_nobody s (suc n) none = ap (λ b. listed s n ++ cond b (n ∷ []) []) (none n) ∙ append-nil (listed s n) ∙ listed_nobody s n none
+
+-- A member is listed after those before it.
+pub listed_with : (s : Members) (n : ℕ) → s n ≡ true → listed s (n + 1) ≡ listed s n ++ (n ∷ [])
+listed_with s n on = listed_more s n ∙ ap (λ b. listed s n ++ cond b (n ∷ []) []) on
+
+-- Any other number is not listed.
+pub listed_without : (s : Members) (n : ℕ) → s n ≡ false → listed s (n + 1) ≡ listed s n
+listed_without s n off = listed_more s n ∙ ap (λ b. listed s n ++ cond b (n ∷ []) []) off ∙ append-nil (listed s n)
+
+-- Where the lists are those of the cells, and no constraint names another, each number has its list.
+pub parts_listed : (ks : List Constraint) (cells : ℕ) (lists : List (List ℕ)) → lists ≡ map (λ x. listed (naming ks x) (length ks)) (range_with_len 0 cells)
+    → ((x : ℕ) → cells ≤ x → Nobody (naming ks x)) → (x : ℕ) → get_or lists x [] ≡ listed (naming ks x) (length ks)
+parts_listed ks cells lists e none x =
+    let each = λ (x : ℕ). listed (naming ks x) (length ks) in
+    ap (λ r. get_or r x []) e
+    ∙ ⊎_elim
+    (λ l. get_or-map-range_with_len each 0 cells x x [] l (omega arith))
+    (λ g. get_or_past (map each (range_with_len 0 cells)) x [] (omega (arith, length-map-range_with_len each 0 cells)) ∙ sym (listed_nobody (naming ks x) (length ks) (none x g)))
+    (cases_lt x cells)

@@ -6,6 +6,7 @@ ghost use Rattle.plan.specs.Placements.{owned_by};
 ghost use Rattle.telling.specs.Tables.{any};
 ghost use Rattle.calls.specs.Networks.{in_force};
 
+use forms::tells::named;
 use plan::constraint::{Constraint, Form};
 use sets::small::Set32;
 
@@ -13,35 +14,19 @@ use sets::small::Set32;
 pub fn names(form: Form, cell: usize) -> bool
     ensures { result ≡ any (λ x. nat_eq x cell) (named form) }
 {
-    match form {
-        Form::State(a, _) => a == cell,
-        Form::Sum(a, b, c) => (a == cell) | ((b == cell) | (c == cell)),
-        Form::Gap(a, _, b) => (a == cell) | (b == cell),
-        Form::Apart(a, _, b, _) => (a == cell) | (b == cell),
-    }
+    named(form).any(|x| x == cell)
 }
 
 /// Whether a premise owns a constraint.
 pub fn is_owned_by(k: &Constraint, premise: usize) -> bool
     ensures { result ≡ owned_by k.now.owner premise }
 {
-    match k.owner {
-        None => false,
-        Some(p) => premise == p,
-    }
+    k.owner == Some(premise)
 }
 
 /// Whether a constraint is in force under the premises in force; an owner from 32 on is no premise, and asks nothing.
 pub fn is_in_force(k: &Constraint, force: Set32) -> bool
     ensures { result ≡ in_force (holds force) k.now }
 {
-    match k.owner {
-        None => true,
-        Some(p) => {
-            if p >= 32 {
-                return true;
-            }
-            force.has(p as u32)
-        }
-    }
+    k.owner.is_none_or(|p| p >= 32 || force.has(p as u32))
 }

@@ -7,7 +7,7 @@ ghost use Rattle.wakes.specs.Naming.{naming};
 ghost use Rattle.wakes.specs.Indexes.{constraints_in, cells_in};
 
 use crate::index::Index;
-use crate::table::build;
+use crate::parts::parts_of;
 use plan::constraint::Constraint;
 use plan::plan::Plan;
 use std::alloc::{AllocError, Global};
@@ -18,53 +18,32 @@ impl Index {
         ensures constraints { IfOk result (λ x. constraints_in x ≡ (planned plan.now).constraints) }
         ensures cells { IfOk result (λ x. cells_in x ≡ length (planned plan.now).cells) }
     {
-        let constraints = copied(heap, plan)?;
-        let cells = plan.cell_count();
-        let table = build(heap, &constraints, cells)?;
-        Ok(Index {
-            constraints,
-            cells,
-            table,
-        })
+        let constraints = Vec::from_slice(heap, plan.constraints())?;
+        let parts = parts_of(heap, plan.constraints(), plan.cell_count())?;
+        Ok(Index { constraints, parts })
     }
 
     /// How many cells there are.
     pub fn cell_count(&self) -> usize
         ensures { result ≡ cells_in self.now }
     {
-        self.cells
+        self.parts.len()
     }
 
     /// A constraint by its number, absent where there is none.
     pub fn constraint(&self, i: usize) -> Option<Constraint>
         ensures { result ≡ slice_get (constraints_in self.now) i }
     {
-        if i >= self.constraints.len() {
-            return None;
-        }
-        Some(self.constraints[i])
+        self.constraints.get(i).copied()
     }
 
     /// The constraints that name a cell, in rising order; no constraint names a cell that there is not.
     pub fn part(&self, cell: usize) -> &[u16]
         ensures { result.now ≡ listed (naming (constraints_in self.now) cell) (length (constraints_in self.now)) }
     {
-        if cell >= self.cells {
-            return &self.table.items[0..0];
+        match self.parts.get(cell) {
+            Some(part) => part,
+            None => &[],
         }
-        self.table.part(cell)
     }
-}
-
-// The constraints of the plan.
-fn copied(heap: Global, plan: &Plan) -> Result<Vec<Constraint>, AllocError>
-    ensures { IfOk result (λ v. v.items ≡ (planned plan.now).constraints) }
-{
-    let mut constraints = Vec::new(heap);
-    let mut i = 0;
-    while let Some(k) = plan.constraint(i) {
-        constraints.push(k)?;
-        i += 1;
-    }
-    Ok(constraints)
 }

@@ -4,5 +4,7 @@
 pub mod concern;
 pub mod index;
 pub mod indexes;
-mod table;
+mod parts;
+#[cfg(test)]
+mod tests;
 pub mod wake;

@@ -1,18 +1,13 @@
--- Each form compares the cell with every cell that it names.
-use Rattle.std.proofs.Common.{eqb, sym, ap, ◌∙◌}
+-- The cells that the form names are compared one after the other.
+use Rattle.std.proofs.Common.{ℕ, eqb, sym, ◌∙◌, rules}
+use Rattle.std.proofs.lemmas.Iterator.Search.{any_from_yields_List}
+use Rattle.std.proofs.lemmas.Iterator.Consumers.{YieldsList-from_first}
 use Rattle.plan.specs.Forms.{named}
-use Rattle.telling.specs.Tables.{any}
-use Rattle.wakes.proofs.Naming.{any_one, any_two, any_three}
+use Rattle.wakes.proofs.Naming.{any-list}
 use Rattle.wakes.proofs.concern.names.Goals as goal
 
-pub returns-in-State : goal.returns-in-State
-returns-in-State c = any_one (λ x. eqb x c.args.cell) _ ∙ ap (λ f. any (λ x. eqb x c.args.cell) (named f)) (sym c.in-State.is)
-
-pub returns-in-Sum : goal.returns-in-Sum
-returns-in-Sum c = any_three (λ x. eqb x c.args.cell) _ _ _ ∙ ap (λ f. any (λ x. eqb x c.args.cell) (named f)) (sym c.in-Sum.is)
-
-pub returns-in-Gap : goal.returns-in-Gap
-returns-in-Gap c = any_two (λ x. eqb x c.args.cell) _ _ ∙ ap (λ f. any (λ x. eqb x c.args.cell) (named f)) (sym c.in-Gap.is)
-
-pub returns-in-Apart : goal.returns-in-Apart
-returns-in-Apart c = any_two (λ x. eqb x c.args.cell) _ _ ∙ ap (λ f. any (λ x. eqb x c.args.cell) (named f)) (sym c.in-Apart.is)
+pub returns : goal.returns
+returns c =
+    let is = λ (x : ℕ). eqb x c.args.cell in
+    let cells = named c.args.form in
+    any_from_yields_List is _ _ _ c.any.ensures.ran (YieldsList-from_first (λ x. x) (λ rest. rest) cells c.named.ensures) (λ x b q k. search rules) ∙ sym (any-list is cells)

@@ -1,25 +1,30 @@
--- What holds of the index of a plan: the table is laid for its cells, and no constraint names another.
-use Rattle.std.proofs.Common.{◌≡◌, ℕ, ◌≤◌, List, [], length, vec_items, vec_len, ap, ◌∙◌, subst, arith}
-use Rattle.sets.specs.Members.{listed}
+-- What holds of the index of a plan: the parts are those of its cells, and no constraint names another.
+use Rattle.std.proofs.Common.{◌≡◌, ℕ, ◌≤◌, List, length, map, vec_items, vec_len, sym, ap, ◌∙◌, subst, arith}
+use Rattle.std.proofs.lemmas.List.{length-map}
+use Rattle.std.proofs.lemmas.List.FromFn.{length-map-range_with_len}
+use Rattle.std.specs.List.{range_with_len}
+use Rattle.sets.specs.Members.{Nobody, listed}
 use Rattle.plan.specs.Items.{planned}
 use Rattle.plan.specs.declared.constraint.Constraint.{Constraint}
 use Rattle.wakes.specs.Naming.{naming}
-use Rattle.wakes.specs.Parts.{Laid}
-use Rattle.wakes.proofs.Naming.{naming_none, listed_nobody}
+use Rattle.wakes.proofs.Naming.{naming_none, parts_listed}
 use Rattle.wakes.proofs.index.Index.new.Goals as goal
 
 pub invariant_of-result : goal.invariant_of-result
 invariant_of-result c =
     let plan = c.args.plan.now in
-    let ks = vec_items c.in_ok-constraints.constraints in
-    let cells = c.cell_count-cells.result in
-    let table = c.in_ok-table.table in
-    let same : ks ≡ (planned plan).constraints = c.in_ok-constraints.ensures in
-    let few : length ks ≤ 512 = omega (arith, ap length same, plan.few_constraints, plan.constraints.ok.0) in
-    let laid : Laid (naming ks) (length ks) cells (vec_items table.starts) (vec_items table.items) =
-    subst (λ (r : List Constraint). Laid (naming r) (length r) cells (vec_items table.starts) (vec_items table.items)) c.deref.ensures.value c.in_ok-table.ensures in
-    let count : vec_len plan.cells ≡ cells = omega (arith, c.cell_count-cells.ensures, plan.cells.ok.0) in
-    let outside : (x : ℕ) → cells ≤ x → listed (naming ks x) (length ks) ≡ [] =
-    λ x l. ap (λ r. listed (naming r x) (length r)) same
-    ∙ listed_nobody (naming (planned plan).constraints x) (length (planned plan).constraints) (naming_none (vec_len plan.cells) (vec_len plan.premises) x (planned plan).constraints (omega (arith, count)) plan.known) in
-    record { few = few; long = laid.long; order = laid.order; within = laid.within; part = laid.part; outside = outside }
+    let items = planned plan in
+    let cells = c.cell_count.result in
+    let same : vec_items c.in_ok-constraints.constraints ≡ items.constraints = c.in_ok-constraints.ensures.items ∙ c.constraints.ensures in
+    let lists = subst (λ (ks : List Constraint). map vec_items (vec_items c.in_ok-parts.parts) ≡ map (λ x. listed (naming ks x) (length ks)) (range_with_len 0 cells)) c.constraints-2.ensures c.in_ok-parts.ensures in
+    let count : vec_len plan.draft.cells ≡ cells = omega (arith, c.cell_count.ensures, plan.draft.cells.ok.0) in
+    let outside : (x : ℕ) → cells ≤ x → Nobody (naming items.constraints x) = λ x l. naming_none (vec_len plan.draft.cells) (vec_len plan.draft.premises) x items.constraints (omega (arith, count)) plan.known in
+    record {
+      few = omega (arith, ap length same, plan.few_constraints, plan.draft.constraints.ok.0);
+      part = λ x. parts_listed items.constraints cells (map vec_items (vec_items c.in_ok-parts.parts)) lists outside x ∙ ap (λ ks. listed (naming ks x) (length ks)) (sym same);
+    }
+
+pub returns-clause-cells : goal.returns-clause-cells
+returns-clause-cells c =
+    let lists = λ (x : ℕ). listed (naming c.constraints-2.result.now x) (length c.constraints-2.result.now) in
+    omega (arith, ap length c.in_ok-parts.ensures, length-map (vec_items c.in_ok-parts.parts) vec_items, length-map-range_with_len lists 0 c.cell_count.result, c.cell_count.ensures, c.in_ok-parts.parts.ok.0)

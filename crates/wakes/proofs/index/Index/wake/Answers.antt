@@ -1,39 +1,43 @@
 -- Each constraint of the part is there, and is put if it is in force.
-use Rattle.std.proofs.Common.{◌+◌, get_or, take, refl, ◌∙◌, arith}
+use Rattle.std.proofs.Common.{ℕ, ◌+◌, ◌<◌, ◌||◌, eqb, length, take, sym, refl, ap, ◌∙◌, arith}
 use Rattle.std.specs.List.{slice_get}
 use Rattle.sets.specs.Members.{among}
 use Rattle.sets.specs.Small.{holds}
 use Rattle.calls.specs.Calls.{standing}
 use Rattle.wakes.specs.Indexes.{constraints_in}
-use Rattle.wakes.proofs.Waking.{waking_none, waking_more, waking_part, nth_passes, part-inside, among-zero, among_more}
+use Rattle.wakes.proofs.Waking.{waking_none, waking_put, waking_skip, waking_part, nth_passes, part-inside, among-zero, among_more}
+use Rattle.wakes.proofs.index.Index.wake.Goals.{then-is_in_force, else-is_in_force}
 use Rattle.wakes.proofs.index.Index.wake.Goals as goal
 
 pub loop-number-init : goal.loop-number-init
 loop-number-init g c =
-    waking_none (g.A.Agenda.waits c.args.agenda.now) (λ j. among j (take 0 c.part-part.result.now)) (λ j. standing (holds c.args.force) (slice_get (constraints_in c.args.self.now) j))
-    (among-zero c.part-part.result.now)
+    let xs = c.part-number-items.result.now in
+    waking_none (g.A.Agenda.waits c.args.agenda.now) (λ j. among j (take 0 xs)) (λ j. standing (holds c.args.force) (slice_get (constraints_in c.args.self.now) j)) (among-zero xs)
 
 pub index-requires : goal.index-requires
 index-requires g c =
-    let in' = part-inside (constraints_in c.args.self.now) c.args.cell c.part-part.result.now c.part-part.ensures c.loop-number.number-index c.loop-number-test.true in
-    omega (arith, in', c.args.self.now.constraints.ok.0)
-
-pub put_if-requires : goal.put_if-requires
-put_if-requires g c =
-    let in' = part-inside (constraints_in c.args.self.now) c.args.cell c.part-part.result.now c.part-part.ensures c.loop-number.number-index c.loop-number-test.true in
-    omega (arith, in', c.args.self.now.few)
+    let in' = part-inside (constraints_in c.args.self.now) c.args.cell c.part-number-items.result.now c.part-number-items.ensures c.loop-number.number-index c.loop-number-test.true in
+    omega (arith, in', c.args.self.now.constraints.ok.0, c.from-i.ensures)
 
 pub loop-number-preserved : goal.loop-number-preserved
 loop-number-preserved g c =
     let ks = constraints_in c.args.self.now in
-    let xs = c.part-part.result.now in
+    let xs = c.part-number-items.result.now in
     let at = c.loop-number.number-index in
-    let in' = part-inside ks c.args.cell xs c.part-part.ensures at c.loop-number-test.true in
-    let passes = nth_passes (standing (holds c.args.force)) ks ks (get_or xs at 0) c.index.result.now refl in' c.index.ensures in
-    waking_more (λ j. among j (take (at + 1) xs)) (g.A.Agenda.waits c.put_if.new.agenda) (get_or xs at 0) c.is_in_force.result c.loop-number.invariant (c.is_in_force.ensures ∙ passes)
-    (among_more xs at c.loop-number-test.true) c.put_if.ensures
+    let in' = part-inside ks c.args.cell xs c.part-number-items.ensures at c.loop-number-test.true in
+    let i = c.from-i.result in
+    let stands = standing (holds c.args.force) in
+    let there : i < length ks = omega (arith, in', c.from-i.ensures) in
+    let passes = nth_passes stands ks ks i c.index.result.now c.is_in_force.result c.is_in_force.ensures refl there c.index.ensures in
+    let grown = λ (j : ℕ). among_more xs at c.loop-number-test.true j ∙ ap (λ n. eqb j n || among j (take at xs)) (sym c.from-i.ensures) in
+    elim c.if-is_in_force.branch [
+      | then-is_in_force w ↦ rw w.agenda-is
+          (waking_put c.loop-number.invariant (λ j. among j (take (at + 1) xs)) i grown (g.A.Agenda.waits w.put.new.self) (omega (arith, there, c.args.self.now.few)) (sym passes ∙ w.if-is_in_force.true) w.put.ensures)
+      | else-is_in_force w ↦ rw w.agenda-is
+          (waking_skip c.loop-number.invariant (λ j. among j (take (at + 1) xs)) i grown (sym passes ∙ w.if-is_in_force.false))
+    ]
 
 pub returns : goal.returns
 returns g c =
-    waking_part (constraints_in c.args.self.now) c.args.cell c.part-part.result.now c.part-part.ensures (holds c.args.force) (g.A.Agenda.waits c.args.agenda.now)
+    waking_part (constraints_in c.args.self.now) c.args.cell c.part-number-items.result.now c.part-number-items.ensures (holds c.args.force) (g.A.Agenda.waits c.args.agenda.now)
     (g.A.Agenda.waits c.loop-number.agenda) c.loop-number.number-index c.loop-number-test.false c.loop-number.invariant

@@ -11,4 +11,4 @@ use Rattle.wakes.proofs.index.Index.wake.Given as goal
 -- Of the part so far the constraints in force were put.
 abbrev pub invariant-loop-number : goal.invariant-loop-number
 invariant-loop-number g l =
-    Waking (g.A.Agenda.waits l.initial.agenda) (λ j. among j (take l.number-index l.part)) (λ j. standing (holds l.force) (slice_get (constraints_in l.self) j)) (g.A.Agenda.waits l.agenda)
+    Waking (g.A.Agenda.waits l.initial.agenda) (λ j. among j (take l.number-index l.number-items)) (λ j. standing (holds l.force) (slice_get (constraints_in l.self) j)) (g.A.Agenda.waits l.agenda)
