@@ -20,7 +20,8 @@ use Rattle.grammar.specs.Tree.{Expr, one, plus, Term, named, counted, group}
 use Rattle.meaning.specs.Making.{adds, helper, makes, makes_term}
 use Rattle.meaning.specs.Solutions.{Assignment, value, term_value, Summed, TermSummed, Extension, OneExtension}
 use Rattle.meaning.specs.Building.{Counts, TermCounts}
-use Rattle.meaning.proofs.Names.{length_more, first_back, first_new}
+use Rattle.std.proofs.lemmas.List.{length_push}
+use Rattle.meaning.proofs.Names.{first_back, first_new}
 use Rattle.meaning.proofs.Growing.{grows_expr, grows-cell, grows-adds, with_cell, with_premise, Knows, KnowsTerm, knows_term_after}
 use Rattle.meaning.proofs.Sound.{names_of, finds_below, made_expr, made_term}
 use Rattle.meaning.proofs.Reading.{meets-front, meets_last, extension_back, helped, between_is, read_expr, read_term}
@@ -104,7 +105,7 @@ helper_one {ts} {s} {v} f d z w a pins holds o =
       };
       only = λ q y.
           let h = helped f d y in
-          below_next n (length (d.cells ++ None ∷ [])) z o.placement q (length_more d.cells None) (o.only q h.rest) (pins q h.rest h.holds);
+          below_next n (length (d.cells ++ None ∷ [])) z o.placement q (length_push d.cells None) (o.only q h.rest) (pins q h.rest h.holds);
     }
 
 -- a further constraint that the placement satisfies where it is in force
@@ -151,7 +152,7 @@ cell_one {ts} {s} {v} x a d w u st new o =
             ⊎_elim (λ e. y.extends b c e) (λ e. update_here n (v a) o.placement c (omega (arith, e.0)) ∙ ap v (spelled_same (part_of ts x) a b st e.1)) (first_back (λ i. spells (name_at ts i) b) d.cells (Some x) 0 c h);
       };
       only = λ q z.
-          below_next n (length (d.cells ++ Some x ∷ [])) (v a) o.placement q (length_more d.cells (Some x)) (o.only q (extension_back (grows-cell ts (Some x) d) z.meets z))
+          below_next n (length (d.cells ++ Some x ∷ [])) (v a) o.placement q (length_push d.cells (Some x)) (o.only q (extension_back (grows-cell ts (Some x) d) z.meets z))
           (z.extends a n (first_new (λ i. spells (name_at ts i) a) d.cells (Some x) 0 new (spelled_so (part_of ts x) a st) ∙ ap (λ (i : ℕ). Some i) (omega arith)));
     }
 

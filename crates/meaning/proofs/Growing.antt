@@ -10,7 +10,8 @@ use Rattle.plan.specs.Names.{Texts, cell_of, premise_of, spells, name_at, part_o
 use Rattle.grammar.specs.Tree.{Name, Expr, one, plus, Term, named, counted, group, Owner, Body, within, aligned, apart, at_most, constraint}
 use Rattle.meaning.specs.Making.{or_zero, cell_named, premise_named, adds, helper, makes, makes_term}
 use Rattle.meaning.specs.Checks.{first, wanted, unwanted, expr_fault, term_fault, body_fault, owner_fault, new_fault, line_fault, range_fault}
-use Rattle.meaning.proofs.Names.{length_more, first_past}
+use Rattle.std.proofs.lemmas.List.{length_push}
+use Rattle.meaning.proofs.Names.{first_past}
 
 -- what was found before is found after, under the same numbers
 pub record Grows (ts : Texts) (d e : Items) : Type 0 where
@@ -46,7 +47,7 @@ pub grows-cell : (ts : Texts) (x : Option Place) (d : Items) → Grows ts d (wit
 grows-cell ts x d = record {
   cells_stay = λ b c h. first_past (λ p. spells (name_at ts p) b) d.cells x 0 c h;
   premises_stay = λ b q h. h;
-  more_cells = omega (arith, length_more d.cells x);
+  more_cells = omega (arith, length_push d.cells x);
   more_premises = omega arith;
 }
 
@@ -55,7 +56,7 @@ grows-premise ts x d = record {
   cells_stay = λ b c h. h;
   premises_stay = λ b q h. first_past (λ p. spells (part_of ts p) b) d.premises x 0 q h;
   more_cells = omega arith;
-  more_premises = omega (arith, length_more d.premises x);
+  more_premises = omega (arith, length_push d.premises x);
 }
 
 pub grows-helper : (ts : Texts) (q : Option ℕ) (f : ℕ → Form) (d : Items) → Grows ts d (helper q f d).then

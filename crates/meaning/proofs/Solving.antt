@@ -15,7 +15,7 @@ use Rattle.meaning.specs.Making.{or_zero, cell_named, premise_named, makes, alig
 use Rattle.meaning.specs.Checks.{line_fault}
 use Rattle.meaning.specs.Solutions.{Assignment, BodySummed, Holds, Forced, Solves, SolvesAll, Extension, OneExtension, by_name, SameSolutions}
 use Rattle.meaning.specs.Building.{BodyCounts, Stands, Built, none, more}
-use Rattle.meaning.proofs.Names.{none_some}
+use Rattle.std.proofs.lemmas.Option.{none-some}
 use Rattle.meaning.proofs.Growing.{Grows, grows_none, grows_then, grows-adds, grows_expr, grows-cell, grows-premise, KnowsBody, KnowsOwner, knows_after, constraint_knows, new_name}
 use Rattle.meaning.proofs.Sound.{made_expr, helpers_of, form_of, body_makes_lem, grows-body, built_sound}
 use Rattle.meaning.proofs.Reading.{meets-front, extension_back, read_expr}
@@ -142,7 +142,7 @@ solves_last v r (x ∷ xs) l h e = (h.0, solves_last v r xs l h.1 e)
 nothing_one : (ts : Texts) (s : Premises) (v : Assignment) → OneExtension ts nothing s v
 nothing_one ts s v = record {
   placement = λ c. pos 0;
-  is = record { placed = λ c. in_u 0 (omega arith); meets = tt; extends = λ b c h. none_some c h };
+  is = record { placed = λ c. in_u 0 (omega arith); meets = tt; extends = λ b c h. absurd (none-some c h) };
   only = λ p x c lt. absurd (omega arith);
 }
 

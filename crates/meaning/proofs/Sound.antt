@@ -14,7 +14,8 @@ use Rattle.grammar.specs.Tree.{Expr, one, plus, Term, named, counted, group, Own
 use Rattle.meaning.specs.Making.{cell_named, premise_named, adds, Grown, helper, makes, makes_term, aligned_to, body_makes, owner_of, place_of, line_makes}
 use Rattle.meaning.specs.Checks.{line_fault}
 use Rattle.meaning.specs.Building.{Built, none, more}
-use Rattle.meaning.proofs.Names.{length_more, first_below}
+use Rattle.std.proofs.lemmas.List.{length_push}
+use Rattle.meaning.proofs.Names.{first_below}
 use Rattle.meaning.proofs.Growing.{Grows, grows_none, grows_then, grows_expr, grows_term_lem, with_cell, with_premise, Knows, KnowsTerm, KnowsBody, KnowsOwner, knows_after, knows_term_after, constraint_knows}
 
 -- numbers that are below n are below whatever is not less
@@ -66,16 +67,16 @@ sound-adds q f d h e = all_known_last (length d.cells) (length d.premises) d.con
 
 sound-cell : (x : Option Place) (d : Items) → sound d ≡ true → sound (with_cell x d) ≡ true
 sound-cell x d h =
-    all_known_more (length d.cells) (length (d.cells ++ x ∷ [])) (length d.premises) (length d.premises) d.constraints (omega (arith, length_more d.cells x)) (omega arith) h
+    all_known_more (length d.cells) (length (d.cells ++ x ∷ [])) (length d.premises) (length d.premises) d.constraints (omega (arith, length_push d.cells x)) (omega arith) h
 
 sound-premise : (x : Place) (d : Items) → sound d ≡ true → sound (with_premise x d) ≡ true
 sound-premise x d h =
-    all_known_more (length d.cells) (length d.cells) (length d.premises) (length (d.premises ++ x ∷ [])) d.constraints (omega arith) (omega (arith, length_more d.premises x)) h
+    all_known_more (length d.cells) (length d.cells) (length d.premises) (length (d.premises ++ x ∷ [])) d.constraints (omega arith) (omega (arith, length_push d.premises x)) h
 
 -- a helper's constraint names the helper and cells that there were
 sound-helper : (f : ℕ → Form) (d : Items) → sound d ≡ true → ((m : ℕ) → length d.cells < m → all_below m (forms.named (f (length d.cells))) ≡ true) → ranged (f (length d.cells)) ≡ true → sound (helper None f d).then ≡ true
 sound-helper f d h below range =
-    sound-adds None (f (length d.cells)) (with_cell None d) (sound-cell None d h) (record { cells = below (length (d.cells ++ None ∷ [])) (omega (arith, length_more d.cells None)); owner = refl; range = range })
+    sound-adds None (f (length d.cells)) (with_cell None d) (sound-cell None d h) (record { cells = below (length (d.cells ++ None ∷ [])) (omega (arith, length_push d.cells None)); owner = refl; range = range })
 
 below_one : (m a : ℕ) → a < m → all_below m (a ∷ []) ≡ true
 below_one m a h = and_from (ltb a m) true (lt-ltb a m h) refl
@@ -107,14 +108,14 @@ mutual
         is_sound = sound-helper (λ c. Sum a u.cell c) u.then right.is_sound
             (λ i lt. and_from (ltb a i) (all_below i (u.cell ∷ n ∷ [])) (lt-ltb a i (omega (arith, left.below, g.more_cells))) (below_two i u.cell n (omega (arith, right.below)) lt))
             refl;
-        below = omega (arith, length_more u.then.cells None);
+        below = omega (arith, length_push u.then.cells None);
       }
 
   pub made_term : (ts : Texts) (t : Term) (d : Items) → sound d ≡ true → KnowsTerm ts d t → Made (makes_term ts None t d)
   made_term ts (named n) d h k = record { is_sound = h; below = finds_below ts d n.bytes (cell_named ts d n.bytes) k }
   made_term ts (counted j) d h k = record {
     is_sound = sound-helper (λ c. State c (Between (pos j.value) (pos j.value))) d h (λ i lt. below_one i (length d.cells) lt) refl;
-    below = omega (arith, length_more d.cells None);
+    below = omega (arith, length_push d.cells None);
   }
   made_term ts (group c e j) d h k = made_expr ts e d h k
 
