@@ -6,6 +6,8 @@ use plan::texts::Texts;
 use statements::statement::Statement;
 use std::fmt;
 
+// PlainPlan of plain has the same two fields: each type stands for one way to print, as a type has one Display, and a type
+// between them and the fields would say no more.
 /// A plan with the two texts that it was read from.
 #[derive(Clone, Copy)]
 pub struct ShownPlan<'a> {
