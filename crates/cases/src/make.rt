@@ -56,10 +56,10 @@ fn add_copy(out: &mut Vec<u8>, text: &[u8], copy: usize) -> io::Result<()> {
 
 // The number that digits write; what is no digit counts for nothing.
 fn number(digits: &[u8]) -> usize {
-    digits
-        .iter()
-        .filter(|b| b.is_ascii_digit())
-        .fold(0usize, |n, b| n.saturating_mul(10).saturating_add(usize::from(hex(*b))))
+    digits.iter().filter(|b| b.is_ascii_digit()).fold(
+        0usize,
+        |n, b| n.saturating_mul(10).saturating_add(usize::from(hex(*b))),
+    )
 }
 
 // A piece of a text: `@N TEXT` is N copies of TEXT, anything else one copy of itself.
