@@ -7,21 +7,17 @@ ghost use Rattle.grammar.specs.Reading.{Reads, Nests, OneReading, WrongWords, Sh
 /// What the reading of a line promises: its tree spells exactly its words and nests no deeper than it may, no two trees
 /// have the same words, a wrong word is the first that no line has there, a short line only lacks words, and a
 /// parenthesis is refused only where as many as may be are open. Of wrong and too deep words the first is told.
-pub fn reading_stands() -> u8
+pub fn reading_stands()
     ensures reads { Reads }
     ensures nests { Nests }
     ensures one { OneReading }
     ensures wrong { WrongWords }
     ensures short { ShortLines }
     ensures deep { DeepWords }
-{
-    0
-}
+{}
 
 /// The trees of some lines, and where others are refused.
-pub fn samples_stand() -> u8
+pub fn samples_stand()
     ensures lines { ReadLines }
     ensures refusals { RefusedLines }
-{
-    0
-}
+{}

@@ -1,5 +1,6 @@
 -- A whole line against its reading.
 use Rattle.std.proofs.Common.{◌≡◌, ℕ, ◌≤◌, true, List, [], ◌∷◌, ◌++◌, Some, None, Ok, Err, Option, Result, ap, ◌∙◌, arith}
+use Rattle.std.proofs.lemmas.List.Elements.{All-head}
 use Rattle.words.specs.declared.Placed.{Placed}
 use Rattle.words.specs.declared.Symbol.TheVariants.{Colon}
 use Rattle.words.specs.Words.{symbol, Spot}
@@ -29,7 +30,9 @@ first_column (w ∷ ws) = w.column
 pub name-near : (ws us : List Placed) (n : NameRead) → Near ws → spots ws ≡ name_spot (tree_name n) ∷ spots us → n.column ≤ 32768
 unfolding first_column
 name-near [] us n near is = let same : 0 ≡ n.column = ap first_column is in omega arith
-name-near (w ∷ ws) us n near is = let same : w.column ≡ n.column = ap first_column is in omega (arith, near.0)
+name-near (w ∷ ws) us n near is =
+    let same : w.column ≡ n.column = ap first_column is in
+    omega (arith, All-head (λ v. v.column ≤ 32768) w ws near)
 
 module _ {s : Start} {p m : Progress} {ws : List Placed} {x : Place} (r : NewRead s p ws x m) (e : Progress) where
   pub cell_declared : e ≡ made m (record { cells = m.items.cells ++ Some x ∷ []; premises = m.items.premises; constraints = m.items.constraints }) → (k : ℕ) → (n : Name) × ((parse limit (rest (name_next (λ n. whole (cell k n)))) (spots ws) ≡ read (cell k n)) × LineLeaves s (cell k n) p e)

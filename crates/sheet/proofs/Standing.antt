@@ -1,11 +1,11 @@
 -- Where the lines of a text stand in it, and that the names and numbers of a line stand as its words do.
 use Rattle.std.proofs.Common.{◌≡◌, ℕ, suc, ◌+◌, ◌-◌, ◌≤◌, min, Bool, true, false, cond, eqb, leb, List, [], ◌∷◌, ◌++◌, length, take, drop, Some, None, Ok, sym, refl, ap, ◌∙◌, subst, arith}
-use Rattle.std.specs.List.{slice_get, onto_first}
+use Rattle.std.specs.List.{slice_get, onto_first, All, AllByRecursion}
 use Rattle.std.proofs.lemmas.List.{length-take, length-drop, take-take, drop-drop, drop-take}
 use Rattle.std.proofs.lemmas.Bool.{le-leb}
+use Rattle.std.proofs.lemmas.List.Elements.{recursion_from_All}
 use Rattle.words.specs.Words.{Spot, words_of}
 use Rattle.words.specs.Spelling as spelling
-use Rattle.words.specs.Spelling.{Each}
 use Rattle.words.proofs.Spelling.{words_stand}
 use Rattle.grammar.specs.Tree.{Name, Expr, one, plus, Term, named, counted, group, Body, within, aligned, apart, at_most, Line, blank, cell, premise, constraint, name_spot, spell, spell_term, spell_owner, spell_body, spell_line}
 use Rattle.grammar.specs.Parse.{read, parse_line}
@@ -77,26 +77,26 @@ name-part ts t o text bytes n is at h =
 -- ---- numbers
 
 -- words that stand in a line do so in part
-each_front : (bytes : List ℕ) (us vs : List Spot) → Each (spelling.Stands bytes) (us ++ vs) → Each (spelling.Stands bytes) us
+each_front : (bytes : List ℕ) (us vs : List Spot) → AllByRecursion (spelling.Stands bytes) (us ++ vs) → AllByRecursion (spelling.Stands bytes) us
 each_front bytes [] vs h = tt
 each_front bytes (u ∷ us) vs h = (h.0, each_front bytes us vs h.1)
 
-each_back : (bytes : List ℕ) (us vs : List Spot) → Each (spelling.Stands bytes) (us ++ vs) → Each (spelling.Stands bytes) vs
+each_back : (bytes : List ℕ) (us vs : List Spot) → AllByRecursion (spelling.Stands bytes) (us ++ vs) → AllByRecursion (spelling.Stands bytes) vs
 each_back bytes [] vs h = h
 each_back bytes (u ∷ us) vs h = each_back bytes us vs h.1
 
 -- each number of an expression is one of its words, and so not too large
 mutual
-  expr_counts : (bytes : List ℕ) (e : Expr) → Each (spelling.Stands bytes) (spell e) → Counts e
+  expr_counts : (bytes : List ℕ) (e : Expr) → AllByRecursion (spelling.Stands bytes) (spell e) → Counts e
   expr_counts bytes (one t) h = term_counts bytes t h
   expr_counts bytes (plus e c t) h = (expr_counts bytes e (each_front bytes (spell e) _ h), term_counts bytes t (each_back bytes (spell e) _ h).1)
 
-  term_counts : (bytes : List ℕ) (t : Term) → Each (spelling.Stands bytes) (spell_term t) → TermCounts t
+  term_counts : (bytes : List ℕ) (t : Term) → AllByRecursion (spelling.Stands bytes) (spell_term t) → TermCounts t
   term_counts bytes (named n) h = tt
   term_counts bytes (counted k) h = h.0.spelled
   term_counts bytes (group c e k) h = expr_counts bytes e (each_front bytes (spell e) _ h.1)
 
-body_counts : (bytes : List ℕ) (b : Body) → Each (spelling.Stands bytes) (spell_body b) → BodyCounts b
+body_counts : (bytes : List ℕ) (b : Body) → AllByRecursion (spelling.Stands bytes) (spell_body b) → BodyCounts b
 body_counts bytes (within n i lo t hi) h = tt
 body_counts bytes (aligned n c k r) h = tt
 body_counts bytes (apart a c x b y) h = tt
@@ -105,7 +105,7 @@ body_counts bytes (at_most e c f) h = (expr_counts bytes e (each_front bytes (sp
 -- ---- a line
 
 -- a tree whose words stand in a line of a text stands where the line does
-line_stands : (ts : Texts) (t o : ℕ) (text bytes : List ℕ) (l : Line) → slice_get ts t ≡ Some text → LineAt text o bytes → Each (spelling.Stands bytes) (spell_line l) → Stands ts t o l
+line_stands : (ts : Texts) (t o : ℕ) (text bytes : List ℕ) (l : Line) → slice_get ts t ≡ Some text → LineAt text o bytes → AllByRecursion (spelling.Stands bytes) (spell_line l) → Stands ts t o l
 line_stands ts t o text bytes blank is at h = tt
 line_stands ts t o text bytes (cell c n) is at h = name-part ts t o text bytes n is at h.1.0
 line_stands ts t o text bytes (premise c n) is at h = name-part ts t o text bytes n is at h.1.0
@@ -114,4 +114,4 @@ line_stands ts t o text bytes (constraint w b) is at h = body_counts bytes b (ea
 -- and so does the tree that the line is read as
 pub read-stands : (ts : Texts) (t o : ℕ) (text bytes : List ℕ) (ws : List Spot) (l : Line) → slice_get ts t ≡ Some text → LineAt text o bytes → words_of bytes ≡ Ok ws → parse_line limit ws ≡ read l → Stands ts t o l
 read-stands ts t o text bytes ws l is at worded parsed =
-    line_stands ts t o text bytes l is at (subst (Each (spelling.Stands bytes)) (sym (reads.0 limit ws l parsed)) (words_stand bytes ws worded))
+    line_stands ts t o text bytes l is at (recursion_from_All (spelling.Stands bytes) (spell_line l) (subst (All (spelling.Stands bytes)) (sym (reads.0 limit ws l parsed)) (words_stand bytes ws worded)))

@@ -1,9 +1,11 @@
 -- Lines and texts against what they are read as.
 use Rattle.std.proofs.Common.{◌≡◌, ℕ, ◌+◌, ◌<◌, ◌≤◌, true, false, ltb, List, [], ◌∷◌, map, length, Some, None, Ok, Err, Option, Result, sym, refl, ap, ◌∙◌, subst, arith, le-ltb, lt-ltb, Bor}
+use Rattle.std.specs.List.{All, AllByRecursion}
+use Rattle.std.proofs.lemmas.List.Elements.{All-from_recursion, recursion_from_All}
 use Rattle.words.specs.declared.Placed.{Placed}
 use Rattle.words.specs.declared.ReadError.{ReadError as Unread}
 use Rattle.words.specs.declared.ReadError.TheVariants as unread
-use Rattle.words.specs.Spelling.{Stands, Each}
+use Rattle.words.specs.Spelling.{Stands}
 use Rattle.words.specs.Words.{spot, words_of, Tells}
 use Rattle.words.proofs.Spelling.{words_stand}
 use Rattle.grammar.specs.Parse.{parse_line}
@@ -26,12 +28,14 @@ use Rattle.sheet.specs.Sheets.{checked, limited, parsed, worded, line_read, line
 use Rattle.sheet.specs.Answers.{unworded, stopped, fault_at, Ended, Fine, LineReads, lines_in, left, TextReads, BothRead}
 
 -- the words of a line of at most 32768 bytes have columns as small
-near_each : (line : List ℕ) (ws : List Placed) → length line ≤ 32768 → Each (Stands line) (map spot ws) → Near ws
-near_each line [] h e = tt
-near_each line (w ∷ ws) h e = (omega (arith, e.0.before_end), near_each line ws h e.1)
-
 pub words-near : (line : List ℕ) (ws : List Placed) → length line ≤ 32768 → words_of line ≡ Ok (map spot ws) → Near ws
-words-near line ws h e = near_each line ws h (words_stand line (map spot ws) e)
+words-near line ws h e =
+    let stand : All (Stands line) (map spot ws) = words_stand line (map spot ws) e in
+    All-from_recursion (λ w. w.column ≤ 32768) ws (near_each ws (recursion_from_All (Stands line) (map spot ws) stand))
+  where
+    near_each : (ws : List Placed) → AllByRecursion (Stands line) (map spot ws) → AllByRecursion (λ w. w.column ≤ 32768) ws
+    near_each [] e = tt
+    near_each (w ∷ ws) e = (omega (arith, e.0.before_end), near_each ws e.1)
 
 -- a reader's fault
 pub unread_tells : (x : Unread) (s : Start) (p e : Progress) (bytes : List ℕ) → Tells (Err x) (words_of bytes) → LineReads (Err (unworded x)) s p bytes e

@@ -1,5 +1,6 @@
 -- What the readers of constraints and of lines answer.
 use Rattle.std.specs.Prelude.{◌≡◌, ℕ, ◌≤◌, Bool, true, false, not, List, [], ◌∷◌, None, Some, Ok, Err, Option, Result}
+use Rattle.std.specs.List.{All}
 use Rattle.words.specs.declared.Keyword.{Keyword}
 use Rattle.words.specs.declared.Keyword.TheVariants.{Cell, Premise, In, To, Align, Apart}
 use Rattle.words.specs.declared.Placed.{Placed}
@@ -69,8 +70,7 @@ pub record LineLeaves (s : Start) (l : Line) (p e : Progress) : Type 0 where
 
 -- each word's column is at most the length that a text may have
 abbrev pub Near : List Placed → Type 0
-Near [] = Unit {0}
-Near (w ∷ ws) = (w.column ≤ 32768) × Near ws
+Near ws = All (λ w. w.column ≤ 32768) ws
 
 -- a new name is read after the word that declares it
 pub record NewRead (s : Start) (p : Progress) (ws : List Placed) (x : Place) (e : Progress) : Type 0 where

@@ -1,37 +1,15 @@
 -- Longest fronts, and decimal numbers read from the left.
-use Rattle.std.proofs.Common.{◌≡◌, ℕ, zero, suc, ◌+◌, ◌-◌, ◌*◌, ◌<◌, ◌≤◌, Bool, true, false, cond, ltb, List, [], ◌∷◌, ◌++◌, length, get_or, take, drop, Option, refl, ap, le_trans, le_refl, add-one, arith, drop-cons, le-ltb}
+use Rattle.std.proofs.Common.{◌≡◌, ℕ, zero, suc, ◌+◌, ◌-◌, ◌*◌, ◌<◌, ◌≤◌, Bool, true, false, cond, leb, ltb, List, [], ◌∷◌, ◌++◌, length, get_or, take, drop, Some, None, Option, sym, refl, ap, ◌∙◌, subst, le_trans, le_refl, add-one, one-add, arith, drop-cons, le-ltb}
+use Rattle.std.proofs.lemmas.Bool.{lt-leb}
+use Rattle.std.proofs.lemmas.Bool.Decides.{nat_tests}
+use Rattle.std.proofs.lemmas.List.Folds.{length-prefix_len}
+use Rattle.words.specs.Class.{is_class}
+use Rattle.std.specs.List.{AllPass, take_while, prefix_len}
+use Rattle.std.proofs.lemmas.List.Elements.{All-nil, All-cons, All-head, All-tail}
+use Rattle.std.proofs.lemmas.List.Sums.{take_while-cons}
 use Rattle.words.specs.declared.Keyword.{Keyword}
 use Rattle.words.specs.Keywords.{keyword_of}
-use Rattle.words.specs.Laid.{All}
-use Rattle.words.specs.Words.{front, decimal_after, longest, or_name, name_at, word}
-
-pub front_pass : (p : ℕ → Bool) (s : List ℕ) (n : ℕ) → n < length s → p (get_or s n 0) ≡ true → length (front p (drop n s)) ≡ 1 + length (front p (drop (n + 1) s))
-front_pass p s n h e = rw (add-one, drop-cons s n 0, e) (omega arith)
-
-pub front_stop : (p : ℕ → Bool) (s : List ℕ) (n : ℕ) → n < length s → p (get_or s n 0) ≡ false → length (front p (drop n s)) ≡ 0
-front_stop p s n h e = rw (drop-cons s n 0, e)
-
-pub front-end : (p : ℕ → Bool) (s : List ℕ) (n : ℕ) → length s ≤ n → length (front p (drop n s)) ≡ 0
-front-end p [] zero h = refl
-front-end p [] (suc n) h = refl
-front-end p (b ∷ s) zero h = absurd (omega arith)
-front-end p (b ∷ s) (suc n) h = front-end p s n (omega arith)
-
-pub front_is_take : (p : ℕ → Bool) (s : List ℕ) → take (length (front p s)) s ≡ front p s
-front_is_take p [] = refl
-front_is_take p (b ∷ s) = go (p b) (front_is_take p s)
-  where
-    go : (v : Bool) → take (length (front p s)) s ≡ front p s → take (length (cond v (b ∷ front p s) [])) (b ∷ s) ≡ cond v (b ∷ front p s) []
-    go true h = ap (λ l. b ∷ l) h
-    go false h = refl
-
-pub front_le : (p : ℕ → Bool) (s : List ℕ) → length (front p s) ≤ length s
-front_le p [] = omega arith
-front_le p (b ∷ s) = go (p b) (front_le p s)
-  where
-    go : (v : Bool) → length (front p s) ≤ length s → length (cond v (b ∷ front p s) []) ≤ suc (length s)
-    go true h = omega arith
-    go false h = omega arith
+use Rattle.words.specs.Words.{solid, number, number_at, decimal_after, decimal, top, up_to, longest, or_name, name_at, word}
 
 pub decimal_step : (v : ℕ) (s : List ℕ) (n : ℕ) → n < length s → decimal_after v (drop n s) ≡ decimal_after (v * 10 + (get_or s n 0 - 48)) (drop (n + 1) s)
 decimal_step v s n h = rw (add-one, drop-cons s n 0)
@@ -46,46 +24,58 @@ decimal-end v [] (suc n) h = refl
 decimal-end v (b ∷ s) zero h = absurd (omega arith)
 decimal-end v (b ∷ s) (suc n) h = decimal-end v s n (omega arith)
 
+-- a number that is above the largest after some digits is so after all
+pub too_large : (v : ℕ) (s : List ℕ) (n : ℕ) → n < length s → decimal_after v (drop n s) ≡ decimal s → top < v * 10 + (get_or s n 0 - 48) → None ≡ up_to (decimal s)
+too_large v s n h is large =
+    let next = v * 10 + (get_or s n 0 - 48) in
+    let above : top < decimal s = omega (arith, large, decimal_ge next (drop (n + 1) s), decimal_step v s n h, is) in
+    let no : leb (decimal s) top ≡ false = lt-leb (decimal s) top above in
+    rw no refl
+
+-- digits that are not too many, with no letter after them, are a number
+pub short_number : (s : List ℕ) (n v : ℕ) → n ≡ prefix_len (solid 2) s → Some v ≡ up_to (decimal (take n s)) → is_class 1 (get_or s n 0) ≡ false → word n (number v) ≡ number_at (take_while (solid 2) s) s
+short_number s n v is value free =
+    let w = take_while (solid 2) s in
+    let len : n ≡ length w = is ∙ sym (length-prefix_len (solid 2) s) in
+    let known : Some v ≡ up_to (decimal w) = value ∙ ap (λ k. up_to (decimal (take k s))) is in
+    let alone : is_class 1 (get_or s (length w) 0) ≡ false = ap (λ k. is_class 1 (get_or s k 0)) (sym len) ∙ free in
+    grind (arith, nat_tests)
+
 -- a front that is not too long is the reserved word that it spells, or else the name
 pub short-name : {p w : List ℕ} {n : ℕ} (k : Option Keyword) → p ≡ w → n ≡ length w → n ≤ longest → k ≡ keyword_of p → word n (or_name k p) ≡ name_at w
 short-name {p} {w} {n} k is len le key =
     let fits : ltb longest (length w) ≡ false = le-ltb longest (length w) (omega arith) in
     rw (fits, key, is, len) refl
 
--- what follows the longest front of which each byte passes
-abbrev pub past : (ℕ → Bool) → List ℕ → List ℕ
-past p [] = []
-past p (b ∷ s) = cond (p b) (past p s) (b ∷ s)
-
-pub front_splits : (p : ℕ → Bool) (s : List ℕ) → front p s ++ past p s ≡ s
-front_splits p [] = refl
-front_splits p (b ∷ s) = go (p b) (front_splits p s)
+-- each byte of the longest front passes
+pub front_all : (p : ℕ → Bool) (s : List ℕ) → AllPass p (take_while p s)
+front_all p [] = All-nil (λ x. p x ≡ true)
+front_all p (b ∷ s) = subst (AllPass p) (sym (take_while-cons p b s)) (go (p b) refl (front_all p s))
   where
-    go : (v : Bool) → front p s ++ past p s ≡ s → cond v (b ∷ front p s) [] ++ cond v (past p s) (b ∷ s) ≡ b ∷ s
-    go true h = ap (λ l. b ∷ l) h
-    go false h = refl
+    go : (v : Bool) → p b ≡ v → AllPass p (take_while p s) → AllPass p (cond v (b ∷ take_while p s) [])
+    go true e h = All-cons (λ x. p x ≡ true) b (take_while p s) e h
+    go false e h = All-nil (λ x. p x ≡ true)
 
-pub front_all : (p : ℕ → Bool) (s : List ℕ) → All p (front p s)
-front_all p [] = tt
-front_all p (b ∷ s) = go (p b) refl (front_all p s)
-  where
-    go : (v : Bool) → p b ≡ v → All p (front p s) → All p (cond v (b ∷ front p s) [])
-    go true e h = (e, h)
-    go false e h = tt
+-- a front that is not empty begins as the bytes do
+pub front-first : (p : ℕ → Bool) (b : ℕ) (s : List ℕ) → p b ≡ true → get_or (take_while p (b ∷ s)) 0 0 ≡ b
+front-first p b s e = rw (take_while-cons, e) refl
 
-pub front_stops : (p : ℕ → Bool) (s : List ℕ) → p 0 ≡ false → p (get_or (past p s) 0 0) ≡ false
+-- and the next one does not, where a missing byte does not either
+pub front_stops : (p : ℕ → Bool) (s : List ℕ) → p 0 ≡ false → p (get_or (drop (prefix_len p s) s) 0 0) ≡ false
 front_stops p [] z = z
 front_stops p (b ∷ s) z = go (p b) refl (front_stops p s z)
   where
-    go : (v : Bool) → p b ≡ v → p (get_or (past p s) 0 0) ≡ false → p (get_or (cond v (past p s) (b ∷ s)) 0 0) ≡ false
-    go true e h = h
+    go : (v : Bool) → p b ≡ v → p (get_or (drop (prefix_len p s) s) 0 0) ≡ false → p (get_or (drop (cond v (1 + prefix_len p s) 0) (b ∷ s)) 0 0) ≡ false
+    go true e h = rw one-add h
     go false e h = e
 
 -- bytes that pass, before one that does not, are the longest front
-pub front_exact : (p : ℕ → Bool) (w s : List ℕ) → All p w → p (get_or s 0 0) ≡ false → front p (w ++ s) ≡ w
+pub front_exact : (p : ℕ → Bool) (w s : List ℕ) → AllPass p w → p (get_or s 0 0) ≡ false → take_while p (w ++ s) ≡ w
 front_exact p [] [] h e = refl
 front_exact p [] (b ∷ s) h e = rw e refl
-front_exact p (x ∷ w) s h e = rw h.0 (ap (λ l. x ∷ l) (front_exact p w s h.1 e))
+front_exact p (x ∷ w) s h e =
+    let first : p x ≡ true = All-head (λ y. p y ≡ true) x w h in
+    take_while-cons p x (w ++ s) ∙ (λ i. cond (first i) (x ∷ front_exact p w s (All-tail (λ y. p y ≡ true) x w h) e i) [])
 
 pub get_or-seam : (w s : List ℕ) → get_or (w ++ s) (length w) 0 ≡ get_or s 0 0
 get_or-seam [] s = refl

@@ -1,17 +1,20 @@
 -- What the beginning of some bytes says of them.
-use Rattle.std.proofs.Common.{◌≡◌, ℕ, ◌≤◌, Bool, true, false, cond, eqb, ltb, List, [], ◌∷◌, ◌++◌, length, get_or, Some, None, Option, sym, refl, ap, ◌∙◌, subst, arith, eqb→eq, ltb-false, ltb-true}
+use Rattle.std.proofs.Common.{◌≡◌, ℕ, ◌≤◌, Bool, true, false, cond, eqb, ltb, List, [], ◌∷◌, ◌++◌, length, get_or, drop, Some, None, Option, sym, refl, ap, ◌∙◌, subst, arith, eqb→eq, ltb-false, ltb-true}
 use Rattle.std.proofs.lemmas.Bool.Decides.{nat_tests}
+use Rattle.std.specs.List.{take_while, prefix_len}
+use Rattle.std.proofs.lemmas.List.{take-append-drop}
 use Rattle.words.specs.declared.Keyword.{Keyword}
 use Rattle.words.specs.declared.Symbol.{Symbol}
 use Rattle.words.specs.declared.Symbol.TheVariants.{Colon, Plus, Open, Close, AtMost, Equals}
 use Rattle.words.specs.declared.Slip.TheVariants.{Byte, Large, Long}
 use Rattle.words.specs.Class.{between, class_of, is_class, mark}
 use Rattle.words.specs.Keywords.{keyword_of}
-use Rattle.words.specs.Words.{front, solid, decimal, top, longest, Start, gap, word, bad, Word, symbol, front_of, or_name, name_at, number_at, symbol_at, symbol_of}
+use Rattle.words.specs.Words.{solid, decimal, top, longest, Start, gap, word, bad, Word, symbol, front_of, or_name, name_at, number_at, symbol_at, symbol_of}
 use Rattle.words.specs.Laid.{Lettered, Digits, symbol_bytes, Written, Ended, Faulty}
 use Rattle.words.specs.Laid as lay
 use Rattle.words.proofs.Classes.{T_of, letter-solid, digit-solid, not_either, contrary, class_most, no_other, none_solid, none_digit, none_letter, marked, gap_class, or_left, or_right}
-use Rattle.words.proofs.Fronts.{past, front_splits, front_all, front_stops, get_or-seam}
+use Rattle.words.proofs.Scan.{some-front}
+use Rattle.words.proofs.Fronts.{front_all, front-first, front_stops, get_or-seam}
 
 pick : (b n : ℕ) (y other : Symbol) → symbol_bytes y ≡ n ∷ [] → (eqb b n ≡ false → b ∷ [] ≡ symbol_bytes other) → b ∷ [] ≡ symbol_bytes (cond (eqb b n) y other)
 pick b n y other is else = go (eqb b n) refl
@@ -105,11 +108,11 @@ pub opens : (b : ℕ) (s : List ℕ) → Opens (front_of (b ∷ s)) (b ∷ s)
 opens b s =
     let P : Start → Type 0 = λ t. Opens t (b ∷ s) in
     split P (is_class 1 b)
-    (λ e1. name-opens (front (solid 1) (b ∷ s)) (past (solid 1) (b ∷ s)) (b ∷ s) (front_splits (solid 1) (b ∷ s))
-    (record { begins = rw (letter-solid b e1) e1; made = front_all (solid 1) (b ∷ s) }) (front_stops (solid 1) (b ∷ s) none_solid))
+    (λ e1. name-opens (take_while (solid 1) (b ∷ s)) (drop (prefix_len (solid 1) (b ∷ s)) (b ∷ s)) (b ∷ s) (take-append-drop (prefix_len (solid 1) (b ∷ s)) (b ∷ s))
+    (record { begins = ap (is_class 1) (front-first (solid 1) b s (letter-solid b e1)) ∙ e1; made = front_all (solid 1) (b ∷ s) }) (front_stops (solid 1) (b ∷ s) none_solid))
     (λ e1. split P (is_class 2 b)
-    (λ e2. number-opens (front (solid 2) (b ∷ s)) (past (solid 2) (b ∷ s)) (b ∷ s) (front_splits (solid 2) (b ∷ s))
-    (record { some = rw (digit-solid b e2) (omega arith); made = front_all (solid 2) (b ∷ s) }) (front_stops (solid 2) (b ∷ s) none_digit))
+    (λ e2. number-opens (take_while (solid 2) (b ∷ s)) (drop (prefix_len (solid 2) (b ∷ s)) (b ∷ s)) (b ∷ s) (take-append-drop (prefix_len (solid 2) (b ∷ s)) (b ∷ s))
+    (record { some = some-front 2 b s (digit-solid b e2); made = front_all (solid 2) (b ∷ s) }) (front_stops (solid 2) (b ∷ s) none_digit))
     (λ e2. split P (is_class 3 b) (λ e3. gap_class (class_of b) (or_left _ _ e3))
     (λ e3. split P (is_class 4 b) (λ e4. gap_class (class_of b) (or_right _ _ e4))
     (λ e4. split P (is_class 5 b) (λ e5. symbol-opens b s e5)

@@ -1,14 +1,16 @@
 -- What one turn of the reader does to the words that are read.
-use Rattle.std.proofs.Common.{◌≡◌, ℕ, zero, suc, ◌+◌, ◌-◌, ◌<◌, ◌≤◌, Bool, true, false, cond, eqb, ltb, List, [], ◌∷◌, ◌++◌, map, length, get_or, take, drop, Ok, Err, Result, sym, refl, ap, ◌∙◌, subst, add-zero, add-one, arith, length-drop, drop-cons, drop-drop}
-use Rattle.std.proofs.lemmas.List.{take_rest, drop_all, map_push}
+use Rattle.std.proofs.Common.{◌≡◌, ℕ, zero, suc, ◌+◌, ◌-◌, ◌<◌, ◌≤◌, Bool, true, false, cond, eqb, ltb, List, [], ◌∷◌, ◌++◌, map, length, get_or, take, drop, Ok, Err, Result, sym, refl, ap, ◌∙◌, subst, add-zero, arith, length-drop}
+use Rattle.std.proofs.lemmas.List.{take_rest, map_push}
+use Rattle.std.specs.List.{take_while}
+use Rattle.std.proofs.lemmas.List.Folds.{length-prefix_len}
+use Rattle.std.proofs.lemmas.List.Sums.{take_while-cons, prefix_len-le-length}
 use Rattle.words.specs.declared.Slip.{Slip}
 use Rattle.words.specs.declared.Placed.{Placed}
 use Rattle.words.specs.declared.Slip.TheVariants.{Byte, Large, Long}
 use Rattle.words.specs.declared.Symbol.TheVariants.{AtMost}
 use Rattle.words.specs.Class.{is_class}
-use Rattle.words.specs.Words.{front, solid, Start, gap, word, bad, Word, Spot, before, words_from, words_of, onward, front_of, name_at, number_at, symbol_at, decimal, top, symbol, meant, spot, longest}
+use Rattle.words.specs.Words.{solid, Start, gap, word, bad, Word, Spot, before, words_from, words_of, onward, front_of, name_at, number_at, symbol_at, decimal, top, symbol, meant, spot, longest}
 use Rattle.words.proofs.Classes.{letter-solid, digit-solid}
-use Rattle.words.proofs.Fronts.{front_le}
 
 -- a start lies within what it is the start of
 abbrev pub Inside : Start → ℕ → Type 0
@@ -20,8 +22,11 @@ chosen : (P : Start → Type 0) (v : Bool) {a b : Start} → (v ≡ true → P a
 chosen P true h k = h refl
 chosen P false h k = k
 
-some-front : (k b : ℕ) (s : List ℕ) → solid k b ≡ true → 0 < length (front (solid k) (b ∷ s))
-some-front k b s e = rw e (omega arith)
+front_le : (p : ℕ → Bool) (s : List ℕ) → length (take_while p s) ≤ length s
+front_le p s = omega (arith, length-prefix_len p s, prefix_len-le-length p s)
+
+pub some-front : (k b : ℕ) (s : List ℕ) → solid k b ≡ true → 0 < length (take_while (solid k) (b ∷ s))
+some-front k b s e = rw (take_while-cons, e) (omega arith)
 
 name-inside : (w : List ℕ) (m : ℕ) → 0 < length w → length w ≤ m → Inside (name_at w) m
 name-inside w m some le =
@@ -49,17 +54,10 @@ pub inside : (b : ℕ) (s : List ℕ) → Inside (front_of (b ∷ s)) (length (b
 inside b s =
     let P : Start → Type 0 = λ t. Inside t (length (b ∷ s)) in
     chosen P (is_class 1 b)
-    (λ is. name-inside (front (solid 1) (b ∷ s)) _ (some-front 1 b s (letter-solid b is)) (front_le (solid 1) (b ∷ s)))
+    (λ is. name-inside (take_while (solid 1) (b ∷ s)) _ (some-front 1 b s (letter-solid b is)) (front_le (solid 1) (b ∷ s)))
     (chosen P (is_class 2 b)
-    (λ is. number-inside (front (solid 2) (b ∷ s)) (b ∷ s) _ (some-front 2 b s (digit-solid b is)) (front_le (solid 2) (b ∷ s)))
+    (λ is. number-inside (take_while (solid 2) (b ∷ s)) (b ∷ s) _ (some-front 2 b s (digit-solid b is)) (front_le (solid 2) (b ∷ s)))
     (chosen P (is_class 3 b) (λ _. tt) (chosen P (is_class 4 b) (λ _. tt) (chosen P (is_class 5 b) {b = bad 0 Byte} (λ _. symbol-inside b s) (omega arith)))))
-
--- at a place of a line
-pub inside_at : (line : List ℕ) (i : ℕ) (t : Start) → i < length line → t ≡ front_of (drop i line) → Inside t (length line - i)
-inside_at line i t h e =
-    let split = drop-cons line i 0 h in
-    let n : length (drop i line) ≡ length line - i = length-drop i line in
-    rw (e, split) (subst (Inside (front_of (get_or line i 0 ∷ drop (suc i) line))) (sym (ap length split) ∙ n) (inside (get_or line i 0) (drop (suc i) line)))
 
 pub skipped : (k col : ℕ) (s : List ℕ) → words_from k col s ≡ words_from 0 (col + k) (drop k s)
 skipped zero col [] = refl
@@ -84,46 +82,54 @@ pub after_err : (ws : List Spot) (f : Slip × ℕ) → after ws (Err f) ≡ Err 
 after_err [] f = refl
 after_err (x ∷ ws) f = ap (before x) (after_err ws f)
 
--- the reading at a place is what its start says
-pub here : (line : List ℕ) (i : ℕ) (t : Start) → i < length line → t ≡ front_of (drop i line) → words_from 0 (i + 1) (drop i line) ≡ onward (i + 1) t (λ skip. words_from skip (i + 1 + 1) (drop (i + 1) line))
-here line i t h e = rw (e, add-one i, drop-cons line i 0) refl
+-- vs are the words before column c, and the rest is still to be read from there on
+pub record Sofar (line : List ℕ) (vs : List Placed) (c : ℕ) (rest : List ℕ) : Type 0 where
+  pub size : c + length rest ≡ length line + 1
+  pub reads : words_of line ≡ after (map spot vs) (words_from 0 c rest)
 
--- the start of the part of a line from i on
-pub record At (line : List ℕ) (i : ℕ) (t : Start) : Type 0 where
-  pub on : i < length line
-  pub is : t ≡ front_of (take (length line - i) (drop i line))
+pub fits : (rest : List ℕ) (t : Start) → 0 < length rest → t ≡ front_of rest → Inside t (length rest)
+fits [] t some is = absurd (omega (arith, some))
+fits (b ∷ s) t some is = subst (λ t. Inside t (length (b ∷ s))) (sym is) (inside b s)
 
-starts : {line : List ℕ} {i : ℕ} {t : Start} → At line i t → t ≡ front_of (drop i line)
-starts {line} {i} a = a.is ∙ ap front_of (take_rest line i)
+pub gap_step : {line : List ℕ} {vs : List Placed} {c : ℕ} (rest : List ℕ) → 0 < length rest → gap ≡ front_of rest → Sofar line vs c rest → Sofar line vs (c + 1) (take (length rest - 1) (drop 1 rest))
+gap_step {line} {vs} {c} [] some is e = absurd (omega (arith, some))
+gap_step {line} {vs} {c} (b ∷ s) some is e =
+    let more : drop 1 (b ∷ s) ≡ take (length (b ∷ s) - 1) (drop 1 (b ∷ s)) = sym (take_rest (b ∷ s) 1) in
+    subst (Sofar line vs (c + 1)) more
+    (record { size = omega (arith, e.size); reads = e.reads ∙ ap (λ t. after (map spot vs) (onward c t (λ skip. words_from skip (c + 1) s))) (sym is) })
 
-pub fits : {line : List ℕ} {i : ℕ} {t : Start} → At line i t → Inside t (length line - i)
-fits {line} {i} {t} a = inside_at line i t a.on (starts a)
+pub word-step : {line : List ℕ} {vs : List Placed} {c : ℕ} (rest : List ℕ) {n : ℕ} {w : Word} (v : Placed) (us : List Placed) → us ≡ vs ++ v ∷ [] → 0 < length rest → word n w ≡ front_of rest → meant v.token ≡ w → v.column ≡ c → Sofar line vs c rest → Sofar line us (c + n) (take (length rest - n) (drop n rest))
+word-step {line} {vs} {c} [] {n} {w} v us pushed some is means stands e = absurd (omega (arith, some))
+word-step {line} {vs} {c} (b ∷ s) {n} {w} v us pushed some is means stands e =
+    subst (Sofar line us (c + n)) (sym (take_rest (b ∷ s) n)) (go n (fits (b ∷ s) (word n w) some is) is)
+  where
+    at_word : Spot
+    at_word = record { column = c; word = w }
 
--- vs are the words before i, and the words from i on are still to be read
-pub record Sofar (line : List ℕ) (vs : List Placed) (i : ℕ) : Type 0 where
-  pub within : i ≤ length line
-  pub reads : words_of line ≡ after (map spot vs) (words_from 0 (i + 1) (drop i line))
+    ends : map spot us ≡ map spot vs ++ at_word ∷ []
+    ends = ap (map spot) pushed ∙ map_push spot vs v ∙ (λ i. map spot vs ++ record { column = stands i; word = means i } ∷ [])
 
-pub gap_step : {line : List ℕ} {i : ℕ} {vs : List Placed} → At line i gap → Sofar line vs i → Sofar line vs (i + 1)
-gap_step {line} {i} {vs} a e = record { within = omega (arith, a.on); reads = e.reads ∙ ap (after (map spot vs)) (here line i gap a.on (starts a)) }
+    go : (n : ℕ) → (0 < n) × (n ≤ length (b ∷ s)) → word n w ≡ front_of (b ∷ s) → Sofar line us (c + n) (drop n (b ∷ s))
+    go zero h is = absurd (omega (arith, h.0))
+    go (suc m) h is =
+        let back : suc m - 1 ≡ m = omega arith in
+        let far : c + 1 + m ≡ c + suc m = omega arith in
+        let rest : words_from (suc m - 1) (c + 1) s ≡ words_from 0 (c + suc m) (drop m s)
+        = ap (λ k. words_from k (c + 1) s) back ∙ skipped m (c + 1) s ∙ ap (λ k. words_from 0 k (drop m s)) far in
+        record {
+          size = omega (arith, e.size, length-drop m s, h.1);
+          reads = e.reads ∙ ap (λ t. after (map spot vs) (onward c t (λ skip. words_from skip (c + 1) s))) (sym is) ∙ ap (λ r. after (map spot vs) (before at_word r)) rest
+              ∙ sym (after_push (map spot vs) at_word _) ∙ ap (λ l. after l (words_from 0 (c + suc m) (drop m s))) (sym ends);
+        }
 
-pub word-step : {line : List ℕ} {i n : ℕ} {w : Word} {vs : List Placed} (v : Placed) (us : List Placed) → us ≡ vs ++ v ∷ [] → At line i (word n w) → meant v.token ≡ w → v.column ≡ i + 1 → Sofar line vs i → Sofar line us (i + n)
-word-step {line} {i} {n} {w} {vs} v us pushed a means stands e =
-    let s : Spot = record { column = i + 1; word = w } in
-    let is : spot v ≡ s = rw (means, stands) refl in
-    let room = fits a in
-    let col : i + 1 + 1 + (n - 1) ≡ i + n + 1 = omega arith in
-    let far : i + 1 + (n - 1) ≡ i + n = omega arith in
-    let rest : words_from (n - 1) (i + 1 + 1) (drop (i + 1) line) ≡ words_from 0 (i + n + 1) (drop (i + n) line)
-    = skipped (n - 1) (i + 1 + 1) (drop (i + 1) line) ∙ rw (col, drop-drop (n - 1) (i + 1) line, far) refl in
-    let ends : map spot us ≡ map spot vs ++ s ∷ [] = ap (map spot) pushed ∙ map_push spot vs v ∙ ap (λ x. map spot vs ++ x ∷ []) is in
-    record {
-      within = omega (arith, a.on);
-      reads = e.reads ∙ ap (after (map spot vs)) (here line i (word n w) a.on (starts a) ∙ ap (before s) rest) ∙ sym (after_push (map spot vs) s _) ∙ ap (λ l. after l (words_from 0 (i + n + 1) (drop (i + n) line))) (sym ends);
-    }
+pub bad-step : {line : List ℕ} {vs : List Placed} {c : ℕ} (rest : List ℕ) {n : ℕ} {f : Slip} → 0 < length rest → bad n f ≡ front_of rest → Sofar line vs c rest → words_of line ≡ Err (f, c + n)
+bad-step {line} {vs} {c} [] {n} {f} some is e = absurd (omega (arith, some))
+bad-step {line} {vs} {c} (b ∷ s) {n} {f} some is e = e.reads ∙ ap (λ t. after (map spot vs) (onward c t (λ skip. words_from skip (c + 1) s))) (sym is) ∙ after_err (map spot vs) _
 
-pub bad-step : {line : List ℕ} {i n : ℕ} {f : Slip} {vs : List Placed} → At line i (bad n f) → Sofar line vs i → words_of line ≡ Err (f, i + 1 + n)
-bad-step {line} {i} {n} {f} {vs} a e = e.reads ∙ ap (after (map spot vs)) (here line i (bad n f) a.on (starts a)) ∙ after_err (map spot vs) _
+pub end_step : {line : List ℕ} {vs : List Placed} {c : ℕ} (rest : List ℕ) → length rest ≡ 0 → Sofar line vs c rest → words_of line ≡ Ok (map spot vs)
+end_step {line} {vs} {c} [] none e = e.reads ∙ after_ok (map spot vs)
+end_step {line} {vs} {c} (b ∷ s) none e = absurd (omega arith)
 
-pub end_step : {line : List ℕ} {i : ℕ} {vs : List Placed} → length line ≤ i → Sofar line vs i → words_of line ≡ Ok (map spot vs)
-end_step {line} {i} {vs} h e = e.reads ∙ ap (λ l. after (map spot vs) (words_from 0 (i + 1) l)) (drop_all i line h) ∙ after_ok (map spot vs)
+-- the part after some bytes is shorter
+pub part-shorter : (rest : List ℕ) (n : ℕ) → 0 < n → n ≤ length rest → length (take (length rest - n) (drop n rest)) < length rest
+part-shorter rest n some le = rw (take_rest rest n) (omega (arith, length-drop n rest))

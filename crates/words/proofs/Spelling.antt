@@ -1,12 +1,14 @@
 -- Each word stands in its line, after the word before it.
 use Rattle.std.proofs.Common.{◌≡◌, ℕ, zero, suc, ◌+◌, ◌-◌, ◌≤◌, Bool, true, false, cond, eqb, ltb, List, [], ◌∷◌, length, get_or, take, drop, Some, None, Ok, Err, Option, Result, refl, ap, ◌∙◌, subst, arith, length-drop, drop-drop, ltb-false}
+use Rattle.std.specs.List.{AllByRecursion, take_while}
+use Rattle.std.proofs.lemmas.List.Elements.{All-from_recursion}
+use Rattle.std.proofs.lemmas.List.Folds.{length-prefix_len}
 use Rattle.words.specs.declared.Keyword.{Keyword}
 use Rattle.words.specs.declared.Slip.{Slip}
 use Rattle.words.specs.Class.{is_class}
 use Rattle.words.specs.Keywords.{keyword_of}
-use Rattle.words.specs.Words.{front, solid, Start, gap, word, bad, Word, name, number, reserved, symbol, Spot, before, words_from, onward, front_of, or_name, name_at, number_at, symbol_at, decimal, top, longest}
-use Rattle.words.specs.Spelling.{WordAt, Stands, Each, Rising, WordsStand, WordsRise}
-use Rattle.words.proofs.Fronts.{front_is_take}
+use Rattle.words.specs.Words.{solid, Start, gap, word, bad, Word, name, number, reserved, symbol, Spot, before, words_from, onward, front_of, or_name, name_at, number_at, symbol_at, decimal, top, longest}
+use Rattle.words.specs.Spelling.{WordAt, Stands, Rising, WordsStand, WordsRise}
 
 -- a word at the front of some bytes is as those bytes have it
 abbrev Spelled : Start → List ℕ → Type 0
@@ -39,8 +41,8 @@ symbol-spelled b c s =
 front-spelled : (b : ℕ) (s : List ℕ) → Spelled (front_of (b ∷ s)) (b ∷ s)
 front-spelled b s =
     let P : Start → Type 0 = λ t. Spelled t (b ∷ s) in
-    split P (is_class 1 b) (λ _. name-spelled_at (front (solid 1) (b ∷ s)) (b ∷ s) (front_is_take (solid 1) (b ∷ s)))
-    (λ _. split P (is_class 2 b) (λ _. number_spelled (front (solid 2) (b ∷ s)) (b ∷ s) (b ∷ s))
+    split P (is_class 1 b) (λ _. name-spelled_at (take_while (solid 1) (b ∷ s)) (b ∷ s) (ap (λ n. take n (b ∷ s)) (length-prefix_len (solid 1) (b ∷ s))))
+    (λ _. split P (is_class 2 b) (λ _. number_spelled (take_while (solid 2) (b ∷ s)) (b ∷ s) (b ∷ s))
     (λ _. split P (is_class 3 b) (λ _. tt)
     (λ _. split P (is_class 4 b) (λ _. tt)
     (λ _. split P (is_class 5 b) (λ _. symbol-spelled b (get_or s 0 0) (b ∷ s)) (λ _. tt)))))
@@ -60,7 +62,7 @@ lower c d (w ∷ ws) le r = (omega (arith, r.0), r.1)
 
 -- the words from column i + 1 on stand in the line, after column i
 abbrev Lies : List ℕ → ℕ → List Spot → Type 0
-Lies line i ws = Each (Stands line) ws × Rising i ws
+Lies line i ws = AllByRecursion (Stands line) ws × Rising i ws
 
 same_words : (us ws : List Spot) → ◌≡◌ {A = Result (List Spot) (Slip × ℕ)} (Ok us) (Ok ws) → us ≡ ws
 same_words us ws e = cc
@@ -94,7 +96,7 @@ lies line (b ∷ s) zero i ws is e =
     go (bad n f) h ih e = absurd (never _ ws e)
 
 pub words_stand : WordsStand
-words_stand line ws e = (lies line line 0 0 ws refl e).0
+words_stand line ws e = All-from_recursion (Stands line) ws (lies line line 0 0 ws refl e).0
 
 pub words_rise : WordsRise
 words_rise line ws e = (lies line line 0 0 ws refl e).1

@@ -2,6 +2,7 @@
 use Rattle.std.proofs.Common.{◌≡◌, ℕ, suc, ◌+◌, ◌-◌, ◌<◌, ◌≤◌, true, false, cond, eqb, ltb, List, [], ◌∷◌, ◌++◌, length, get_or, Some, None, Err, Option, sym, refl, ap, ◌∙◌, subst, arith, le-ltb, lt-ltb}
 use lib.Seq.{drop-append_seam}
 use Rattle.std.proofs.lemmas.Bool.Decides.{nat_tests}
+use Rattle.std.proofs.lemmas.List.Elements.{All-head}
 use Rattle.words.specs.declared.Keyword.{Keyword}
 use Rattle.words.specs.declared.Symbol.{Symbol}
 use Rattle.words.specs.declared.Symbol.TheVariants.{Colon, Plus, Open, Close, AtMost, Equals}
@@ -16,6 +17,10 @@ use Rattle.words.proofs.Classes.{two_is, not_one, not_two, not_both, contrary, n
 use Rattle.words.proofs.Fronts.{front_exact, get_or-seam}
 use Rattle.words.proofs.Scan.{skipped, after}
 
+-- the first of some digits
+first_digit : {x : ℕ} {w : List ℕ} → Digits (x ∷ w) → solid 2 x ≡ true
+first_digit {x} {w} by = All-head (λ b. solid 2 b ≡ true) x w by.made
+
 -- a word that is written at the front is read there
 name-front : (w s : List ℕ) (k : Option Keyword) → Lettered w → length w ≤ longest → solid 1 (get_or s 0 0) ≡ false → keyword_of w ≡ k → front_of (w ++ s) ≡ word (length w) (or_name k w)
 name-front [] s k by le stops key = absurd (contrary (sym none_letter ∙ by.begins))
@@ -26,7 +31,7 @@ name-front (x ∷ w) s k by le stops key =
 number-front : (w s : List ℕ) → Digits w → decimal w ≤ top → solid 1 (get_or s 0 0) ≡ false → front_of (w ++ s) ≡ word (length w) (number (decimal w))
 number-front [] s by le stops = absurd (omega (arith, by.some))
 number-front (x ∷ w) s by le stops =
-    let is = two_is (class_of x) by.made.0 in
+    let is = two_is (class_of x) (first_digit by) in
     let no : is_class 1 x ≡ false = rw is refl in
     let yes : is_class 2 x ≡ true = rw is refl in
     let fits : ltb top (decimal (x ∷ w)) ≡ false = le-ltb top (decimal (x ∷ w)) le in
@@ -61,7 +66,7 @@ less-front s e = rw e refl
 letter-front : (w : List ℕ) (b : ℕ) (s : List ℕ) → Digits w → decimal w ≤ top → is_class 1 b ≡ true → front_of (w ++ (b ∷ s)) ≡ bad (length w) Byte
 letter-front [] b s by le e = absurd (omega (arith, by.some))
 letter-front (x ∷ w) b s by le e =
-    let is = two_is (class_of x) by.made.0 in
+    let is = two_is (class_of x) (first_digit by) in
     let no : is_class 1 x ≡ false = rw is refl in
     let yes : is_class 2 x ≡ true = rw is refl in
     let fits : ltb top (decimal (x ∷ w)) ≡ false = le-ltb top (decimal (x ∷ w)) le in
@@ -71,7 +76,7 @@ letter-front (x ∷ w) b s by le e =
 large-front : (w s : List ℕ) → Digits w → solid 2 (get_or s 0 0) ≡ false → top < decimal w → front_of (w ++ s) ≡ bad 0 Large
 large-front [] s by stops lt = absurd (omega (arith, by.some))
 large-front (x ∷ w) s by stops lt =
-    let is = two_is (class_of x) by.made.0 in
+    let is = two_is (class_of x) (first_digit by) in
     let no : is_class 1 x ≡ false = rw is refl in
     let yes : is_class 2 x ≡ true = rw is refl in
     let above : ltb top (decimal (x ∷ w)) ≡ true = lt-ltb top (decimal (x ∷ w)) lt in

@@ -1,5 +1,6 @@
 -- Which lines have which words: how words are written, what stands between them, and what is no word.
-use Rattle.std.specs.Prelude.{◌≡◌, ℕ, ◌+◌, ◌<◌, ◌≤◌, Bool, true, false, List, [], ◌∷◌, ◌++◌, length, Some, None, Ok, Err, codes, ◌==◌, slice_index}
+use Rattle.std.specs.Prelude.{◌≡◌, ℕ, ◌+◌, ◌<◌, ◌≤◌, true, false, List, [], ◌∷◌, ◌++◌, length, Some, None, Ok, Err, codes, ◌==◌, slice_index}
+use Rattle.std.specs.List.{AllPass}
 use Rattle.words.specs.declared.Symbol.{Symbol}
 use Rattle.words.specs.declared.Symbol.TheVariants.{Colon, Plus, Open, Close, AtMost, Equals}
 use Rattle.words.specs.declared.Slip.{Slip}
@@ -8,20 +9,15 @@ use Rattle.words.specs.Class.{between, class_of, is_class}
 use Rattle.words.specs.Keywords.{keyword_of}
 use Rattle.words.specs.Words.{solid, decimal, top, longest, Word, name, number, reserved, symbol, Spot, words_of}
 
--- Each byte passes a test.
-abbrev pub All : (ℕ → Bool) → List ℕ → Type 0
-All p [] = Unit {0}
-All p (b ∷ s) = (p b ≡ true) × All p s
-
 -- Bytes of classes 1 and 2, the first of class 1.
 pub record Lettered (s : List ℕ) : Type 0 where
   pub begins : is_class 1 (slice_index s 0) ≡ true
-  pub made : All (solid 1) s
+  pub made : AllPass (solid 1) s
 
 -- One or more digits.
 pub record Digits (s : List ℕ) : Type 0 where
   pub some : 0 < length s
-  pub made : All (solid 2) s
+  pub made : AllPass (solid 2) s
 
 -- The bytes of a symbol.
 abbrev pub symbol_bytes : Symbol → List ℕ

@@ -1,5 +1,6 @@
 -- Words stand in the line that they are the words of.
 use Rattle.std.specs.Prelude.{◌≡◌, ℕ, ◌-◌, ◌<◌, ◌≤◌, List, [], ◌∷◌, length, take, drop, Ok}
+use Rattle.std.specs.List.{All}
 use Rattle.words.specs.Words.{Word, name, number, reserved, symbol, Spot, longest, top, words_of}
 
 -- A name is the part of the line at its column and no longer than a name may be, a number no larger than a word may be.
@@ -15,11 +16,6 @@ pub record Stands (line : List ℕ) (s : Spot) : Type 0 where
   pub before_end : s.column ≤ length line
   pub spelled : WordAt line s.column s.word
 
--- Each of a list of words has a property.
-abbrev pub Each : (Spot → Type 0) → List Spot → Type 0
-Each P [] = Unit {0}
-Each P (w ∷ ws) = P w × Each P ws
-
 -- The columns rise from word to word, all of them above c.
 abbrev pub Rising : ℕ → List Spot → Type 0
 Rising c [] = Unit {0}
@@ -27,7 +23,7 @@ Rising c (w ∷ ws) = (c < w.column) × Rising w.column ws
 
 -- Each word of a line stands in it.
 abbrev pub WordsStand : Type 0
-WordsStand = (line : List ℕ) (ws : List Spot) → words_of line ≡ Ok ws → Each (Stands line) ws
+WordsStand = (line : List ℕ) (ws : List Spot) → words_of line ≡ Ok ws → All (Stands line) ws
 
 -- The words of a line stand in it one after the other.
 abbrev pub WordsRise : Type 0

@@ -1,5 +1,6 @@
 -- The words of a line, or the first fault that keeps it from having any.
 use Rattle.std.specs.Prelude.{◌≡◌, ℕ, zero, suc, ◌+◌, ◌-◌, ◌*◌, Bool, cond, List, [], ◌∷◌, map, length, Some, None, Ok, Err, vec_items, Option, Result, Vec, ◌==◌, nat_le, nat_lt, slice_index}
+use Rattle.std.specs.List.{take_while}
 use Rattle.std.specs.declared.alloc.Global.{Global}
 use Rattle.words.specs.declared.Keyword.{Keyword}
 use Rattle.words.specs.declared.Symbol.{Symbol}
@@ -19,11 +20,6 @@ use Rattle.words.specs.Keywords.{keyword_of}
 -- A byte's class is from k to 2: names are made of bytes from class 1 on, numbers of bytes of class 2.
 abbrev pub solid : ℕ → ℕ → Bool
 solid k b = between k 2 (class_of b)
-
--- The longest front of which each byte passes a test.
-abbrev pub front : (ℕ → Bool) → List ℕ → List ℕ
-front p [] = []
-front p (b ∷ s) = cond (p b) (b ∷ front p s) []
 
 -- The number that digits write after the digits of n.
 abbrev pub decimal_after : ℕ → List ℕ → ℕ
@@ -100,8 +96,8 @@ symbol_at b next = cond (b == 60) (cond (next == 61) (word 2 (symbol AtMost)) (b
 abbrev pub front_of : List ℕ → Start
 front_of [] = gap
 front_of (b ∷ s) =
-    cond (is_class 1 b) (name_at (front (solid 1) (b ∷ s)))
-    (cond (is_class 2 b) (number_at (front (solid 2) (b ∷ s)) (b ∷ s))
+    cond (is_class 1 b) (name_at (take_while (solid 1) (b ∷ s)))
+    (cond (is_class 2 b) (number_at (take_while (solid 2) (b ∷ s)) (b ∷ s))
     (cond (is_class 3 b) gap (cond (is_class 4 b) gap (cond (is_class 5 b) (symbol_at b (slice_index s 0)) (bad 0 Byte)))))
 
 -- A word and its column, counted from 1.

@@ -3,6 +3,7 @@
 ghost use Rattle.std.specs.Prelude.{◌≡◌};
 ghost use Rattle.words.specs.Class.{class_of};
 
+// The classes are published as numbers from 0 to 5 in this table, so they stay numbers and the table stays bytes.
 /// The class of each byte: 1 for letters, `_` and `.`; 2 for digits; 3 for the space; 4 for the byte that ends a line;
 /// 5 for the bytes of symbols; else 0.
 pub const CLASS: [u8; 256] = [

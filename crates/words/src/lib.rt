@@ -1,15 +1,17 @@
 // The words of a line of a sheet, each with its column, or the first fault of its bytes.
 #![tactic(auto)]
 
-ghost use Rattle.std.specs.Prelude.{◌≡◌, ℕ, ◌+◌, ◌<◌, ◌≤◌, true, false, length, take, slice_index};
-ghost use Rattle.std.specs.Str.{bytes_eq};
+ghost use Rattle.std.specs.Prelude.{◌≡◌, ◌<◌, length, slice_index};
+ghost use Rattle.std.specs.List.{prefix_len, take_while};
+ghost use Rattle.words.specs.declared.ReadError.TheVariants.{Memory};
+ghost use Rattle.words.specs.Class.{is_class};
 ghost use Rattle.words.specs.Examples.{ReadLines, FaultyLines};
 ghost use Rattle.words.specs.Keywords.{keyword_of};
 ghost use Rattle.words.specs.Laid.{ExactWords, ExactFaults};
 ghost use Rattle.words.specs.Spelling.{WordsStand, WordsRise};
-ghost use Rattle.words.specs.Words.{solid, front, decimal, up_to, symbol_of, front_of, name_at, number_at, symbol_at, meant_front, words_of, Tells};
+ghost use Rattle.words.specs.Words.{solid, decimal, up_to, symbol_of, front_of, name_at, number_at, symbol_at, meant_front, words_of, Tells};
 
-use std::alloc::Global;
+use std::alloc::{AllocFailed, Global};
 
 mod class;
 
@@ -17,6 +19,9 @@ pub use class::{CLASS, class_of};
 
 /// The largest number that a word may be.
 pub const TOP: u64 = 4_294_967_295;
+
+// It is the largest that a number's type holds.
+const _: () = prove!(TOP == u32::MAX as u64);
 
 /// The most bytes that a name may have.
 pub const LONGEST: usize = 16;
@@ -83,66 +88,63 @@ enum Front<'a> {
     Bad(Slip, usize),
 }
 
+impl<T: Drop> From<AllocFailed<T>> for ReadError {
+    ghost from_gives = { λ _ e. e ≡ Memory };
+
+    fn from(_e: AllocFailed<T>) -> ReadError {
+        ReadError::Memory
+    }
+}
+
 // Whether a byte's class is from `least` to 2.
 fn is_solid(b: u8, least: u8) -> bool
     ensures { result ≡ solid least b }
 {
-    let class = class_of(b);
-    least <= class && class <= 2
+    (least..=2).contains(&class_of(b))
 }
 
 // How many bytes at the front have a class from `least` to 2.
 fn run_len(s: &[u8], least: u8) -> usize
-    ensures count { result ≡ length (front (solid least) s.now) }
-    ensures within { result ≤ length s.now }
-    ensures part { take result s.now ≡ front (solid least) s.now }
+    ensures { result ≡ prefix_len (solid least) s.now }
 {
-    let mut n = 0;
-    while n < s.len() && is_solid(s[n], least) {
-        n += 1;
+    s.iter().take_while(|b| is_solid(**b, least)).count()
+}
+
+// Whether some bytes begin with a letter.
+fn begins_with_letter(s: &[u8]) -> bool
+    ensures { result ≡ is_class 1 (slice_index s.now 0) }
+{
+    match s {
+        [first, ..] => class_of(*first) == 1,
+        [] => false,
     }
-    n
 }
 
 // The number that digits write, absent above `TOP`.
 fn number(digits: &[u8]) -> Option<u32>
     ensures { result ≡ up_to (decimal digits.now) }
 {
-    let mut v: u64 = 0;
-    for d in digits {
-        v = v * 10 + d.saturating_sub(b'0') as u64;
-        if v > TOP {
-            return None;
-        }
+    let mut value: u32 = 0;
+    for digit in digits {
+        value = value
+            .checked_mul(10)?
+            .checked_add(u32::from(digit.saturating_sub(b'0')))?;
     }
-    Some(v as u32)
-}
-
-// Whether two slices have the same bytes.
-fn same(a: &[u8], b: &[u8]) -> bool
-    ensures { result ≡ bytes_eq a.now b.now }
-{
-    a == b
+    Some(value)
 }
 
 /// The reserved word that some bytes spell, if any.
 pub fn keyword_of(word: &[u8]) -> Option<Keyword>
     ensures { result ≡ keyword_of word.now }
 {
-    if same(word, b"cell") {
-        Some(Keyword::Cell)
-    } else if same(word, b"premise") {
-        Some(Keyword::Premise)
-    } else if same(word, b"in") {
-        Some(Keyword::In)
-    } else if same(word, b"to") {
-        Some(Keyword::To)
-    } else if same(word, b"align") {
-        Some(Keyword::Align)
-    } else if same(word, b"apart") {
-        Some(Keyword::Apart)
-    } else {
-        None
+    match word {
+        b"cell" => Some(Keyword::Cell),
+        b"premise" => Some(Keyword::Premise),
+        b"in" => Some(Keyword::In),
+        b"to" => Some(Keyword::To),
+        b"align" => Some(Keyword::Align),
+        b"apart" => Some(Keyword::Apart),
+        _ => None,
     }
 }
 
@@ -161,7 +163,7 @@ fn symbol_of(b: u8) -> Symbol
 
 // A reserved word or a name at the front, which begins with a letter.
 fn name_front<'a>(rest: &'a [u8]) -> Front<'a>
-    ensures { meant_front result ≡ name_at (front (solid 1) rest.now) }
+    ensures { meant_front result ≡ name_at (take_while (solid 1) rest.now) }
 {
     let n = run_len(rest, 1);
     if n > LONGEST {
@@ -176,34 +178,26 @@ fn name_front<'a>(rest: &'a [u8]) -> Front<'a>
 
 // A number at the front, which begins with a digit; a letter straight after it is a fault.
 fn number_front<'a>(rest: &'a [u8]) -> Front<'a>
-    ensures { meant_front result ≡ number_at (front (solid 2) rest.now) rest.now }
+    ensures { meant_front result ≡ number_at (take_while (solid 2) rest.now) rest.now }
 {
     let n = run_len(rest, 2);
-    match number(&rest[..n]) {
-        None => Front::Bad(Slip::Large, 0),
-        Some(v) => {
-            if n < rest.len() && class_of(rest[n]) == 1 {
-                Front::Bad(Slip::Byte, n)
-            } else {
-                Front::Word(Token::Number(v), n)
-            }
-        }
+    let Some(value) = number(&rest[..n]) else {
+        return Front::Bad(Slip::Large, 0);
+    };
+    if begins_with_letter(&rest[n..]) {
+        return Front::Bad(Slip::Byte, n);
     }
+    Front::Word(Token::Number(value), n)
 }
 
 // A symbol at the front; `<` is one only with `=` straight after it.
-fn symbol_front<'a>(rest: &'a [u8]) -> Front<'a>
-    requires { 0 < length rest.now }
-    ensures { meant_front result ≡ symbol_at (slice_index rest.now 0) (slice_index rest.now 1) }
+fn symbol_front<'a>(first: u8, after: &[u8]) -> Front<'a>
+    ensures { meant_front result ≡ symbol_at first (slice_index after.now 0) }
 {
-    if rest[0] == b'<' {
-        if rest.len() > 1 && rest[1] == b'=' {
-            Front::Word(Token::Symbol(Symbol::AtMost), 2)
-        } else {
-            Front::Bad(Slip::Byte, 0)
-        }
-    } else {
-        Front::Word(Token::Symbol(symbol_of(rest[0])), 1)
+    match (first, after) {
+        (b'<', [b'=', ..]) => Front::Word(Token::Symbol(Symbol::AtMost), 2),
+        (b'<', _) => Front::Bad(Slip::Byte, 0),
+        _ => Front::Word(Token::Symbol(symbol_of(first)), 1),
     }
 }
 
@@ -212,17 +206,13 @@ fn begins<'a>(rest: &'a [u8]) -> Front<'a>
     requires { 0 < length rest.now }
     ensures { meant_front result ≡ front_of rest.now }
 {
-    let class = class_of(rest[0]);
-    if class == 1 {
-        name_front(rest)
-    } else if class == 2 {
-        number_front(rest)
-    } else if class == 3 || class == 4 {
-        Front::Space
-    } else if class == 5 {
-        symbol_front(rest)
-    } else {
-        Front::Bad(Slip::Byte, 0)
+    let first = rest[0];
+    match class_of(first) {
+        1 => name_front(rest),
+        2 => number_front(rest),
+        3 | 4 => Front::Space,
+        5 => symbol_front(first, &rest[1..]),
+        _ => Front::Bad(Slip::Byte, 0),
     }
 }
 
@@ -232,20 +222,20 @@ pub fn words<'a>(heap: Global, line: &'a [u8]) -> Result<Vec<Placed<'a>>, ReadEr
     ensures { Tells result (words_of line.now) }
 {
     let mut out = Vec::new(heap);
-    let mut at = 0;
-    while at < line.len() {
-        match begins(&line[at..]) {
+    let mut rest = line;
+    let mut column = 1;
+    while !rest.is_empty() {
+        match begins(rest) {
             Front::Space => {
-                at += 1;
+                rest = &rest[1..];
+                column += 1;
             }
-            Front::Word(token, n) => {
-                let column = at + 1;
-                if out.push(Placed { token, column }).is_err() {
-                    return Err(ReadError::Memory);
-                }
-                at += n;
+            Front::Word(token, len) => {
+                out.push(Placed { token, column })?;
+                rest = &rest[len..];
+                column += len;
             }
-            Front::Bad(slip, n) => return Err(ReadError::Fault(slip, at + 1 + n)),
+            Front::Bad(slip, on) => return Err(ReadError::Fault(slip, column + on)),
         }
     }
     Ok(out)
@@ -253,19 +243,15 @@ pub fn words<'a>(heap: Global, line: &'a [u8]) -> Result<Vec<Placed<'a>>, ReadEr
 
 /// A line has exactly the words that it is laid out as, or exactly the fault that stands after them. Each word stands in
 /// the line, a name as the line's own bytes, and the columns rise from word to word.
-pub fn words_stand() -> u8
+pub fn words_stand()
     ensures words { ExactWords }
     ensures faults { ExactFaults }
     ensures standing { WordsStand }
     ensures rising { WordsRise }
-{
-    0
-}
+{}
 
 /// The words of some lines, and the faults of others.
-pub fn samples_stand() -> u8
+pub fn samples_stand()
     ensures lines { ReadLines }
     ensures faults { FaultyLines }
-{
-    0
-}
+{}

@@ -3,5 +3,5 @@ use Rattle.std.proofs.Common.{◌≡◌, ◌≤◌, drop}
 use Rattle.words.specs.Words.{decimal_after, decimal}
 use Rattle.words.proofs.number.Given as goal
 
-abbrev pub invariant-loop-d : goal.invariant-loop-d
-invariant-loop-d l = (l.v ≤ 4294967295) × (decimal_after l.v (drop l.d-index l.digits) ≡ decimal l.digits)
+abbrev pub invariant-loop-digit : goal.invariant-loop-digit
+invariant-loop-digit l = (l.value ≤ 4294967295) × (decimal_after l.value (drop l.digit-index l.digits) ≡ decimal l.digits)

@@ -1,36 +1,50 @@
 -- Each turn of the reader takes a gap or a word off the line, or ends at its fault.
-use Rattle.std.proofs.Common.{refl, arith}
-use Rattle.std.proofs.ResultArms.{chosen}
-use Rattle.words.specs.Words.{word, meant, bad}
-use Rattle.words.proofs.Scan.{At, fits, gap_step, word-step, bad-step, end_step}
+use Rattle.std.proofs.Common.{◌≡◌, ◌<◌, length, rules, refl, arith}
+use Rattle.words.proofs.Scan.{fits, gap_step, word-step, bad-step, end_step, part-shorter}
 use Rattle.words.proofs.words.Goals as goal
-use Rattle.words.proofs.words.Goals.{In-Bad}
 
-in_word : (c : goal.Else-is_err) → At c.args.line.now c.loop-at.at (word c.in-Word.n (meant c.in-Word.token))
-in_word c = record { on = c.loop-at-test.true; is = c.in-Word.ensures }
+pub slice_bounds-rest-count-in-Word : goal.slice_bounds-rest-count-in-Word
+slice_bounds-rest-count-in-Word c =
+    let some : 0 < length c.loop-rest.rest.now = search rules in
+    (fits _ _ some c.in-Word.ensures).1
 
-in_bad : (c : goal.In-Bad) → At c.args.line.now c.loop-at.at (bad c.in-Bad.n c.in-Bad.slip)
-in_bad c = record { on = c.loop-at-test.true; is = c.in-Bad.ensures }
+pub slice_bounds-rest-start-in-Word : goal.slice_bounds-rest-start-in-Word
+slice_bounds-rest-start-in-Word c =
+    let some : 0 < length c.loop-rest.rest.now = search rules in
+    (fits _ _ some c.in-Word.ensures).1
 
-pub loop-at-preserved-in-Space : goal.loop-at-preserved-in-Space
-loop-at-preserved-in-Space c = gap_step (record { on = c.loop-at-test.true; is = c.in-Space.ensures }) c.loop-at.invariant
+pub overflow_add-column-in-Word : goal.overflow_add-column-in-Word
+overflow_add-column-in-Word c =
+    let some : 0 < length c.loop-rest.rest.now = search rules in
+    omega (arith, fits _ _ some c.in-Word.ensures, c.loop-rest.invariant.size)
 
-pub overflow_add-at-in-Word : goal.overflow_add-at-in-Word
-overflow_add-at-in-Word c = omega (arith, fits (in_word c))
+pub loop-rest-smaller : goal.loop-rest-smaller
+loop-rest-smaller c =
+    let some : 0 < length c.loop-rest.rest.now = search rules in
+    let inside = fits _ _ some c.in-Word.ensures in
+    part-shorter c.loop-rest.rest.now c.in-Word.len inside.0 inside.1
 
-pub loop-at-smaller : goal.loop-at-smaller
-loop-at-smaller c = omega (arith, fits (in_word c))
+pub loop-rest-preserved-in-Space : goal.loop-rest-preserved-in-Space
+loop-rest-preserved-in-Space c =
+    let some : 0 < length c.loop-rest.rest.now = search rules in
+    gap_step _ some c.in-Space.ensures c.loop-rest.invariant
 
-pub loop-at-preserved : goal.loop-at-preserved
-loop-at-preserved c =
-    let pushed = chosen _ _ _ _ c.push.ensures.items c.if-is_err.ensures.negation in
-    word-step _ _ pushed (in_word c) refl (omega arith) c.loop-at.invariant
+pub loop-rest-preserved : goal.loop-rest-preserved
+loop-rest-preserved c =
+    let some : 0 < length c.loop-rest.rest.now = search rules in
+    word-step _ _ _ c.in_ok-push-in-Word.ensures.items some c.in-Word.ensures refl refl c.loop-rest.invariant
 
-pub overflow_add-result-in-Bad : goal.overflow_add-result-in-Bad
-overflow_add-result-in-Bad c = omega (arith, fits (in_bad c))
+pub overflow_add-result : goal.overflow_add-result
+overflow_add-result c =
+    let some : 0 < length c.loop-rest.rest.now = search rules in
+    omega (arith, fits _ _ some c.in-Bad.ensures, c.loop-rest.invariant.size)
 
 pub returns-in-Bad : goal.returns-in-Bad
-returns-in-Bad c = bad-step (record { on = c.loop-at-test.true; is = c.in-Bad.ensures }) c.loop-at.invariant
+returns-in-Bad c =
+    let some : 0 < length c.loop-rest.rest.now = search rules in
+    bad-step _ some c.in-Bad.ensures c.loop-rest.invariant
 
 pub returns : goal.returns
-returns c = end_step c.loop-at-test.false c.loop-at.invariant
+returns c =
+    let none : length c.loop-rest.rest.now ≡ 0 = search rules in
+    end_step _ none c.loop-rest.invariant

@@ -1,10 +1,10 @@
--- What each turn of the reader keeps: the words before its place, and the rest still to be read.
-use Rattle.std.proofs.Common.{◌-◌, length, vec_items}
+-- What each turn of the reader keeps: the words so far, and the rest still to be read from a column on.
+use Rattle.std.proofs.Common.{length, vec_items}
 use Rattle.words.proofs.Scan.{Sofar}
 use Rattle.words.proofs.words.Given as goal
 
-abbrev pub invariant-loop-at : goal.invariant-loop-at
-invariant-loop-at l = Sofar l.line (vec_items l.out) l.at
+abbrev pub invariant-loop-rest : goal.invariant-loop-rest
+invariant-loop-rest l = Sofar l.line (vec_items l.out) l.column l.rest
 
-abbrev pub decreases-loop-at : goal.decreases-loop-at
-decreases-loop-at l = length l.line - l.at
+abbrev pub decreases-loop-rest : goal.decreases-loop-rest
+decreases-loop-rest l = length l.rest
