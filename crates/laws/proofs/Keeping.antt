@@ -1,7 +1,9 @@
 -- The keeping rule keeps what holds of each conflict, keeps conflicts apart, and at most 64.
-use Rattle.std.proofs.Common.{◌≡◌, suc, ◌≤◌, Bool, true, false, cond, not, leb, List, [], ◌∷◌, ◌++◌, length, filter, refl, ap, le_refl, arith}
+use Rattle.std.proofs.Common.{◌≡◌, ◌≤◌, Bool, true, false, cond, not, leb, List, [], ◌∷◌, ◌++◌, length, filter, arith}
 use Rattle.std.specs.List.{AllByRecursion}
 use Rattle.std.proofs.ByRecursion.{All-push, all_kept_by, kept_by_passes}
+use Rattle.std.proofs.lemmas.List.{length_push}
+use Rattle.std.proofs.lemmas.List.Sums.{length-filter, count_by-le-length}
 use Rattle.std.proofs.lemmas.Bool.{cond_both, not-true, leb-false}
 use Rattle.plan.specs.Placements.{Premises}
 use Rattle.telling.specs.Tables.{any}
@@ -35,14 +37,6 @@ push_apart : (ks : List Premises) (r : Premises) → Apart ks → AllByRecursion
 push_apart [] r h a = (tt, tt)
 push_apart (k ∷ ks) r h a = (All-push (Parted k) ks r h.0 a.0, push_apart ks r h.1 a.1)
 
-kept_by_le : (p : Premises → Bool) (ks : List Premises) → length (filter p ks) ≤ length ks
-kept_by_le p [] = le_refl 0
-kept_by_le p (k ∷ ks) = let h = kept_by_le p ks in cond_both (p k) (k ∷ filter p ks) (filter p ks) (λ z. length z ≤ suc (length ks)) (λ e. omega arith) (λ e. omega arith)
-
-push_length : (ks : List Premises) (r : Premises) → length (ks ++ (r ∷ [])) ≡ suc (length ks)
-push_length [] r = refl
-push_length (k ∷ ks) r = ap suc (push_length ks r)
-
 pub keeps_apart : KeepsApart
 unfolding keep
 keeps_apart = record {
@@ -59,9 +53,9 @@ keeps_apart = record {
   keep_few = λ r ks h.
       let p = λ (k : Premises). not (within r k) in
       let rest = not_above r ks in
-      let le = kept_by_le p ks in
+      let le : length rest ≤ length ks = omega (arith, length-filter p ks, count_by-le-length p ks) in
       cond_both (any (λ k. within k r) ks) ks (cond (leb 64 (length rest)) rest (rest ++ (r ∷ []))) (λ z. length z ≤ 64)
       (λ e. h)
       (λ e. cond_both (leb 64 (length rest)) rest (rest ++ (r ∷ [])) (λ z. length z ≤ 64) (λ f. omega arith)
-      (λ f. let a = leb-false 64 (length rest) f in let b = push_length rest r in omega arith));
+      (λ f. let a = leb-false 64 (length rest) f in let b = length_push rest r in omega arith));
 }
