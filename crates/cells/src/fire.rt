@@ -57,6 +57,9 @@ fn form_reasons<K: Kind>(table: &[Cell<K>], form: Form) -> Reasons
     all
 }
 
+// Functions over the table and the constraint, and no struct that holds both: each method that writes would have to promise
+// that its struct keeps the lent table, in place of asking that the constraint can be fired.
+
 // Tells each cell that the constraint names that no number is allowed, for the constraint's owner and the reasons of every
 // cell that it names.
 fn make_deads<K: Kind>(table: &mut [Cell<K>], k: Constraint) -> Changed

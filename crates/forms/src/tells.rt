@@ -120,6 +120,8 @@ pub fn tell_at(form: Form, i: usize) -> Option<Tell>
     }
 }
 
+// Not one generic iterator with NamedCells: they differ in the function that looks up, and no signature can name the type
+// of an iterator over a function.
 /// The tells that a form makes, one after the other; seen as the list of those that are still to come.
 #[derive(Drop)]
 pub struct FormTells {

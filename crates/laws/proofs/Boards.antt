@@ -1,6 +1,7 @@
 -- Clear, bring and lift keep what holds of a cleared board.
 use Rattle.std.proofs.Common.{◌≡◌, ℕ, ◌<◌, true, false, List, [], length, Some, None, Option, sym, refl, ap, ◌∙◌, subst, ⊎_elim}
 use Rattle.std.specs.List.{slice_get}
+use Rattle.std.proofs.lemmas.Option.{slice_get_within}
 use Rattle.std.proofs.lemmas.Bool.{cond_both, or_cases, or_parts}
 use Rattle.statements.proofs.Tests.{test_clash}
 use Rattle.facts.specs.Model.{Model, Tells}
@@ -17,7 +18,7 @@ use Rattle.calls.specs.Networks.{Net, Planned, in_force}
 use Rattle.calls.specs.Boards.{Board, reset}
 use Rattle.calls.specs.Trails.{Trail}
 use Rattle.calls.specs.Calls.{standing, belongs, clear_board, bring_board, resting, lift_board}
-use Rattle.laws.proofs.Numbered.{nth_below, in_force-holds, in_force_made}
+use Rattle.laws.proofs.Numbered.{in_force-holds, in_force_made}
 use Rattle.laws.proofs.Calms.{woken_calmed}
 use Rattle.laws.proofs.Counts.{woken_bounded}
 use Rattle.laws.proofs.Live.{at_hand, Tabled, Live}
@@ -25,11 +26,11 @@ use Rattle.laws.proofs.Jumps.{reset_same, reset-fits, reset_lies}
 
 standing_below : (force : Premises) (ks : List Constraint) (j : ℕ) (o : Option Constraint) → slice_get ks j ≡ o → standing force o ≡ true → j < length ks
 standing_below force ks j None e h = test_clash h refl
-standing_below force ks j (Some k) e h = nth_below ks j k e
+standing_below force ks j (Some k) e h = slice_get_within ks j k e
 
 belongs_below : (p : ℕ) (ks : List Constraint) (j : ℕ) (o : Option Constraint) → slice_get ks j ≡ o → belongs p o ≡ true → j < length ks
 belongs_below p ks j None e h = test_clash h refl
-belongs_below p ks j (Some k) e h = nth_below ks j k e
+belongs_below p ks j (Some k) e h = slice_get_within ks j k e
 
 module _ {F : Type 0} (m : Model F) (l : Laws m) (N : Net) (ok : Planned N) (Sort : Placement → Type 0) (placed : (v : Placement) → Sort v → Placed v) where
   -- ---- clear

@@ -1,6 +1,7 @@
 -- Each step makes the number waiting, plus the number of constraints times the table's size, smaller.
 use Rattle.std.proofs.Common.{◌≡◌, ℕ, suc, ◌+◌, ◌*◌, ◌<◌, ◌≤◌, true, false, not, ◌&&◌, eqb, length, Some, None, Option, refl, ap, ⊎_elim, mul-le-mul_left, arith}
 use Rattle.std.specs.List.{slice_get}
+use Rattle.std.proofs.lemmas.Option.{slice_get_within}
 use Rattle.std.proofs.lemmas.Bool.{cond_both, or_cases, and_parts, eq-eqb}
 use Rattle.statements.proofs.Tests.{test_clash, test_cases}
 use Rattle.facts.specs.Model.{Model}
@@ -17,7 +18,7 @@ use Rattle.telling.proofs.Sizes.{below_size_le, below_size_lt}
 use Rattle.calls.specs.Networks.{Net, Planned, in_force}
 use Rattle.calls.specs.Boards.{Board, any_below, without, concerns, woken}
 use Rattle.calls.specs.Running.{after_taken, after_step}
-use Rattle.laws.proofs.Numbered.{nth_below, any_below_no, any_below_yes, count_mono, count_less, count_below, named_below}
+use Rattle.laws.proofs.Numbered.{any_below_no, any_below_yes, count_mono, count_less, count_below, named_below}
 
 -- ---- waking
 
@@ -29,7 +30,7 @@ module _ (N : Net) where
 
   pub woken_bounded : (force : Premises) (cells w : Members) → ((j : ℕ) → w j ≡ true → j < length N.constraints) → (j : ℕ) → woken N force cells w j ≡ true → j < length N.constraints
   woken_bounded force cells w b j e =
-      ⊎_elim (b j) (λ h. concerns-some force cells (slice_get N.constraints j) h (λ k at _. nth_below N.constraints j k at)) (or_cases (w j) (concerns force cells (slice_get N.constraints j)) e)
+      ⊎_elim (b j) (λ h. concerns-some force cells (slice_get N.constraints j) h (λ k at _. slice_get_within N.constraints j k at)) (or_cases (w j) (concerns force cells (slice_get N.constraints j)) e)
 
 pub without_member : (j i : ℕ) (w : Members) → without j w i ≡ true → w i ≡ true
 without_member j i w e = (and_parts (not (eqb i j)) (w i) e).1

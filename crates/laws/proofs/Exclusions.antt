@@ -1,5 +1,5 @@
 -- What no network does.
-use Rattle.std.proofs.Common.{◌≡◌, ℕ, zero, suc, ◌+◌, ◌<◌, ◌≤◌, true, false, not, eqb, List, [], ◌∷◌, Some, None, Option, sym, refl, ap, ◌∙◌, subst, arith}
+use Rattle.std.proofs.Common.{◌≡◌, ℕ, zero, suc, ◌+◌, ◌<◌, ◌≤◌, true, false, not, eqb, List, [], ◌∷◌, Some, Option, sym, refl, ap, ◌∙◌, subst, arith}
 use Rattle.std.specs.List.{slice_get}
 use Rattle.std.proofs.lemmas.Bool.{cond_both, cond-true, cond-false, eqb-true, eq-eqb}
 use Rattle.statements.proofs.Tests.{test_clash, test_cases, test_no}
@@ -17,7 +17,7 @@ use Rattle.calls.specs.Running.{Outcome, quiet, conflict, spent, after_taken, af
 use Rattle.calls.specs.Searching.{Search, Finding, found, none_left, full, spent as tired, Seek, fails, finds, fills, moves}
 use Rattle.calls.specs.Searching.{tires as wearies}
 use Rattle.calls.specs.States.{State}
-use Rattle.calls.specs.Refusals.{Refusal, search_open, not_cleared, other_length, no_search, no_such, already, kept_conflict, something_waits, number_of, Row, first_row, kept_rows, while_open, uncleared, absent, brought, refusal}
+use Rattle.calls.specs.Refusals.{kept_conflict, number_of, Row, first_row, kept_rows, while_open, uncleared, absent, brought, refusal}
 use Rattle.calls.specs.Calls.{Answer, refused, done, lifted, ran, shown, listed, sought, finished}
 use Rattle.calls.specs.Histories.{Event}
 use Rattle.laws.specs.Promises.{Always, OnRun, OnConflict, OnSeek, OnNone, OverHistories, Contradicted, ConflictsRight}
@@ -112,29 +112,12 @@ only_in_vain m l N ok es s h = vain_events N es ((promises m l).promised N ok es
 
 -- ---- bring
 
--- The number of a refusal, 0 where there is none.
-abbrev numbered : Option Refusal → ℕ
-numbered None = 0
-numbered (Some r) = number_of r
-
 -- A row that gives another refusal does not apply where the answer is a kept conflict.
 row_passed : (r : Row) (rs : List Row) (i : ℕ) → (number_of r.refusal ≡ 7 → ⊥) → first_row (r ∷ rs) ≡ Some (kept_conflict i) → first_row rs ≡ Some (kept_conflict i)
 row_passed r rs i other e =
     test_cases {P = first_row rs ≡ Some (kept_conflict i)} r.applies
-    (λ p. absurd (other (ap numbered (sym (cond-true r.applies (Some r.refusal) (first_row rs) p) ∙ e))))
+    (λ p. let some : Some r.refusal ≡ Some (kept_conflict i) = sym (cond-true r.applies (Some r.refusal) (first_row rs) p) ∙ e in let same : r.refusal ≡ kept_conflict i = cc in absurd (other (ap number_of same)))
     (λ p. sym (cond-false r.applies (Some r.refusal) (first_row rs) p) ∙ e)
-
--- The index of a kept conflict.
-abbrev index : Option Refusal → ℕ
-index None = 0
-index (Some search_open) = 0
-index (Some not_cleared) = 0
-index (Some other_length) = 0
-index (Some no_search) = 0
-index (Some no_such) = 0
-index (Some already) = 0
-index (Some (kept_conflict i)) = i
-index (Some something_waits) = 0
 
 -- The d-th of some kept conflicts is the first within ps.
 pub record First (ps : Premises) (ks : List Premises) (d : ℕ) : Type 0 where
@@ -151,7 +134,8 @@ kept_rows-first n ps [] i e = none_some (kept_conflict i) e
 kept_rows-first n ps (k ∷ ks) i e =
     test_cases {P = (d : ℕ) × (i ≡ n + d) × First ps (k ∷ ks) d} (within k ps)
     (λ p.
-    let same : n ≡ i = ap index (sym (cond-true (within k ps) (Some (kept_conflict n)) (first_row (kept_rows (suc n) ps ks)) p) ∙ e) in
+    let some : Some (kept_conflict n) ≡ Some (kept_conflict i) = sym (cond-true (within k ps) (Some (kept_conflict n)) (first_row (kept_rows (suc n) ps ks)) p) ∙ e in
+    let same : n ≡ i = cc in
     (0, omega arith, record { conflict_is = k; there = refl; lies = p; not-before = λ j r lt _. absurd (omega arith) }))
     (λ p.
     let r = kept_rows-first (suc n) ps ks i (sym (cond-false (within k ps) (Some (kept_conflict n)) (first_row (kept_rows (suc n) ps ks)) p) ∙ e) in

@@ -1,5 +1,5 @@
 -- Over every history, what each answer claims holds.
-use Rattle.std.proofs.Common.{◌≡◌, ℕ, ◌≤◌, true, false, List, [], ◌∷◌, length, Some, None, Option, sym, refl, ap, ◌∙◌, subst, inl, inr, arith}
+use Rattle.std.proofs.Common.{◌≡◌, ℕ, ◌≤◌, true, false, List, [], ◌∷◌, length, Some, None, Option, sym, refl, ◌∙◌, subst, inl, inr, arith}
 use Rattle.std.specs.List.{AllByRecursion}
 use Rattle.std.proofs.lemmas.Bool.{cond-true, cond-false, not-false}
 use Rattle.statements.proofs.Tests.{test_clash, test_cases}
@@ -43,7 +43,7 @@ shut None e = refl
 shut (Some t) e = test_clash refl e
 
 some_same : (a b : Trail) → Some a ≡ Some b → a ≡ b
-some_same a b e = ap (λ (o : Option Trail). elim o as (λ z. Trail) [ None ↦ [] | Some x ↦ x ]) e
+some_same a b e = cc
 
 -- ---- what holds after a history
 

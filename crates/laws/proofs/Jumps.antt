@@ -1,7 +1,6 @@
 -- Jumps and guesses keep what holds of a search.
 use Rattle.std.proofs.Common.{◌≡◌, ℕ, ◌<◌, true, false, not, ◌&&◌, eqb, leb, ◌∷◌, length, ℤ, pos, ◌+ℤ◌, ◌≤ℤ◌, sym, ap, ◌∙◌, subst, ⊎_elim, arith}
 use Rattle.std.specs.List.{AllByRecursion}
-use Rattle.std.proofs.ByRecursion.{All-push}
 use Rattle.std.proofs.lemmas.Int.{ints, by_lt_z}
 use Rattle.std.proofs.lemmas.Bool.{cond_both, cond-false, cases_lt, cases_eq, and_parts, and_from, not-true, le-leb, eqb-true, eq-eqb, ltb-true, lt-ltb}
 use Rattle.statements.proofs.Tests.{test_clash, test_cases}
@@ -22,7 +21,7 @@ use Rattle.calls.specs.Running.{Clean}
 use Rattle.calls.specs.Trails.{guessed, Trail, guesses, guess_at, before, without_guess, holds_from, jump_trail, word_of, words}
 use Rattle.calls.specs.Searching.{Search, Highest, after_word, after_words, after_jump, after_guess}
 use Rattle.laws.specs.Inside.{IsTold, TrailRight}
-use Rattle.laws.proofs.Numbered.{any_below_no}
+use Rattle.laws.proofs.Numbered.{any_below_no, all_push}
 use Rattle.laws.proofs.Calms.{unchanged_fact, woken_calmed}
 use Rattle.laws.proofs.Counts.{woken_bounded}
 use Rattle.laws.proofs.Live.{at_hand, MeetsGuess, MeetsReasons, Live}
@@ -207,7 +206,7 @@ module _ {F : Type 0} (m : Model F) (l : Laws m) (N : Net) (Sort : Placement →
           few_guesses = omega arith;
           few_entries = omega arith;
           all_told = λ _.
-              All-push (IsTold m N T') (words t) w
+              all_push (IsTold m N T') (words t) w
               (all_weaker (IsTold m N T) (IsTold m N T') (is_told_below m l N T T' (after_word_below m l N w T)) (words t) (s.right.all_told clean))
               (after_word-told m l N w T);
         };

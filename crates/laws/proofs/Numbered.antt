@@ -1,7 +1,8 @@
 -- Elements of lists by their numbers, sets of numbers, and the constraints of a planned network.
-use Rattle.std.proofs.Common.{◌≡◌, ℕ, zero, suc, ◌<◌, ◌≤◌, Bool, true, false, cond, not, ◌&&◌, ◌||◌, ltb, List, [], ◌∷◌, length, Some, None, Option, sym, refl, ap, subst, ⊎_elim, le_refl, arith}
+use Rattle.std.proofs.Common.{◌≡◌, ℕ, zero, suc, ◌<◌, ◌≤◌, Bool, true, false, cond, not, ◌&&◌, ◌||◌, ltb, List, [], ◌∷◌, ◌++◌, filter, Some, None, Option, sym, refl, ap, subst, ⊎_elim, le_refl, arith}
 use Rattle.std.specs.List.{slice_get, AllByRecursion}
-use Rattle.std.proofs.lemmas.Bool.{ltb-true, eqb-true, or_cases, or_parts, or_left, or_right, cases_eq, cases_lt, and_parts, not-true}
+use Rattle.std.proofs.lemmas.Option.{none-some}
+use Rattle.std.proofs.lemmas.Bool.{cond_both, ltb-true, eqb-true, or_cases, or_parts, or_left, or_right, cases_eq, cases_lt, and_parts, not-true}
 use Rattle.statements.proofs.Tests.{test_clash, test_cases, and_made}
 use Rattle.sets.specs.Members.{Members, inside, count}
 use Rattle.sets.proofs.Counts.{count_le}
@@ -15,7 +16,7 @@ use Rattle.calls.specs.Boards.{any_below}
 -- ---- options and lists
 
 pub none_some : {A : Type 0} {X : Type 0} (a : A) → None ≡ Some a → X
-none_some {A} a e = absurd (subst (λ (o : Option A). elim o as (λ z. Type 0) [ None ↦ Unit {0} | Some b ↦ ⊥ ]) e tt)
+none_some a e = absurd (none-some a e)
 
 pub all_nth : {A : Type 0} (P : A → Type 0) (xs : List A) (i : ℕ) (x : A) → AllByRecursion P xs → slice_get xs i ≡ Some x → P x
 all_nth P [] i x h e = none_some x e
@@ -26,10 +27,19 @@ pub all_from_nth : {A : Type 0} (P : A → Type 0) (xs : List A) → ((i : ℕ) 
 all_from_nth P [] h = tt
 all_from_nth P (x ∷ xs) h = (h 0 x refl, all_from_nth P xs (λ i y e. h (suc i) y e))
 
-pub nth_below : {A : Type 0} (xs : List A) (i : ℕ) (x : A) → slice_get xs i ≡ Some x → i < length xs
-nth_below [] i x e = none_some x e
-nth_below (y ∷ ys) zero x e = omega arith
-nth_below (y ∷ ys) (suc i) x e = let h = nth_below ys i x e in omega arith
+pub all_push : {A : Type 0} (P : A → Type 0) (xs : List A) (x : A) → AllByRecursion P xs → P x → AllByRecursion P (xs ++ x ∷ [])
+all_push P [] x h p = (p, tt)
+all_push P (y ∷ ys) x h p = (h.0, all_push P ys x h.1 p)
+
+pub all_kept : {A : Type 0} (P : A → Type 0) (test : A → Bool) (xs : List A) → AllByRecursion P xs → AllByRecursion P (filter test xs)
+all_kept P test [] h = tt
+all_kept P test (x ∷ xs) h =
+    cond_both (test x) (x ∷ filter test xs) (filter test xs) (AllByRecursion P) (λ e. (h.0, all_kept P test xs h.1)) (λ e. all_kept P test xs h.1)
+
+pub kept_pass : {A : Type 0} (test : A → Bool) (xs : List A) → AllByRecursion (λ x. test x ≡ true) (filter test xs)
+kept_pass test [] = tt
+kept_pass test (x ∷ xs) =
+    cond_both (test x) (x ∷ filter test xs) (filter test xs) (AllByRecursion (λ y. test y ≡ true)) (λ e. (e, kept_pass test xs)) (λ e. kept_pass test xs)
 
 -- Each number below the length has an element.
 pub nth_cases : {A : Type 0} {P : Type 0} (o : Option A) → (o ≡ None → P) → ((x : A) → o ≡ Some x → P) → P

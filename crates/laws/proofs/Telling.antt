@@ -1,7 +1,6 @@
 -- Telling what the entries of a trail say.
 use Rattle.std.proofs.Common.{◌≡◌, ℕ, suc, ◌<◌, ◌≤◌, true, eqb, List, [], ◌∷◌, Some, sym, refl, ◌∙◌, subst, arith}
 use Rattle.std.specs.List.{AllByRecursion}
-use Rattle.std.proofs.ByRecursion.{All-push}
 use Rattle.std.proofs.lemmas.Bool.{cond_both, cond-true, eqb-true, eq-eqb, lt-ltb}
 use Rattle.statements.specs.Numbers.{top, bottom}
 use Rattle.statements.proofs.Tests.{test_clash, and_made}
@@ -24,6 +23,7 @@ use Rattle.calls.specs.Searching.{after_word, after_words}
 use Rattle.laws.specs.Inside.{IsTold}
 use Rattle.laws.proofs.Live.{at_hand, MeetsGuess, MeetsReasons, Lying}
 use Rattle.laws.proofs.Trails.{Sub, sub_tail, at_hand_sub, at_hand_opened, meets_shorter, meets-among, TrueEntry, TrueTrail}
+use Rattle.laws.proofs.Numbered.{all_push}
 
 module _ {F : Type 0} (m : Model F) (l : Laws m) (N : Net) where
   -- ---- what is told
@@ -94,7 +94,7 @@ module _ {F : Type 0} (m : Model F) (l : Laws m) (N : Net) where
     pub words-true : (t es : Trail) → Sub es t → TrueTrail N Sort force es → AllByRecursion (TrueWord t) (words es)
     unfolding words
     words-true t [] s h = tt
-    words-true t (e ∷ es) s h = All-push (TrueWord t) (words es) (word_of (guesses es) e) (words-true t es (sub_tail e es t s) h.1) (word_of-true t e es s h.0)
+    words-true t (e ∷ es) s h = all_push (TrueWord t) (words es) (word_of (guesses es) e) (words-true t es (sub_tail e es t s) h.1) (word_of-true t e es s h.0)
 
     -- What telling keeps: cells fit, and placements lie within.
     abbrev pub Good : Trail → Table F → Type 0

@@ -1,5 +1,5 @@
 -- The trail: what a guess number means, what a jump makes of it, and that its forced entries are true.
-use Rattle.std.proofs.Common.{◌≡◌, ℕ, suc, ◌<◌, ◌≤◌, true, eqb, [], ◌∷◌, length, ℤ, ◌≤ℤ◌, Some, None, Option, sym, refl, ap, ◌∙◌, subst, le_refl, arith}
+use Rattle.std.proofs.Common.{◌≡◌, ℕ, suc, ◌<◌, ◌≤◌, true, eqb, [], ◌∷◌, length, ℤ, ◌≤ℤ◌, Some, sym, refl, ap, ◌∙◌, subst, le_refl, arith}
 use Rattle.std.proofs.lemmas.Bool.{cond_both, cond-true, cond-false, eqb-true, ne_eqb, ltb-true, lt-ltb}
 use Rattle.statements.proofs.Tests.{test_cases}
 use Rattle.plan.specs.Placements.{Placement, Premises}
@@ -154,5 +154,5 @@ module _ (N : Net) (Sort : Placement → Type 0) (force : Premises) where
       (λ p. guess-cell g es c m h.1 (sym (cond-false (eqb g (guesses es)) (Some (d, n)) (guess_at g es) p) ∙ e))
     where
       cell_of : (a b : ℕ × ℤ) → Some a ≡ Some b → a.0 ≡ b.0
-      cell_of a b same = ap (λ (o : Option (ℕ × ℤ)). elim o as (λ z. ℕ) [ None ↦ 0 | Some p ↦ p.0 ]) same
+      cell_of a b same = let e : a ≡ b = cc in ap (λ (p : ℕ × ℤ). p.0) e
   guess-cell g (forced d n r ∷ es) c m h e = guess-cell g es c m h.1 e

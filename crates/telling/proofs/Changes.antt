@@ -1,7 +1,6 @@
 -- Which cells a firing changes.
 use Rattle.std.proofs.Common.{◌≡◌, ℕ, Bool, true, false, cond, not, ◌||◌, eqb, List, [], ◌∷◌, ◌++◌, sym, refl, ap, ◌∙◌, subst, ap₂, ⊎_elim}
 use mathlib.Core.Path.{fun_ext}
-use Rattle.std.specs.List.{AllByRecursion}
 use Rattle.std.proofs.Math.Bool.{or_assoc}
 use Rattle.std.proofs.lemmas.Bool.{cond_both, cond-false, cases_eq, eq-eqb, ne_eqb, or_left}
 use Rattle.statements.proofs.Tests.{test_clash, test_cases, test_no}
@@ -20,7 +19,8 @@ use Rattle.telling.specs.Tables.{Cell, Table, facts, reasons_of, changed}
 use Rattle.telling.specs.Telling.{is_made, said_fact, tell_reasons, told_cell, after_told, after_tell}
 use Rattle.telling.specs.Firing.{after_tells, after_dead, after_deads, any_in_conflict, fired, if_changed, tells_change, deads_change, fired_change}
 use Rattle.telling.specs.Theorems.{GoesSo}
-use Rattle.telling.proofs.Cases.{all_themselves, all_of}
+use Rattle.telling.proofs.Cases.{all_themselves, all_of, all_weaker}
+use Rattle.telling.proofs.Keeps.{TellKeeps, DeadKeeps, fired_keeps}
 use Rattle.telling.proofs.Tells.{told_cell-fact}
 use Rattle.telling.proofs.Fires.{Below, tells_targets, after_tell_below, after_dead_below}
 use Rattle.telling.proofs.StableCover.{is_made_mono}
@@ -157,32 +157,19 @@ module _ {F : Type 0} (m : Model F) (l : Laws m) where
   only_one : (ns : List ℕ) (x : ℕ) (T T' : Table F) → among x ns ≡ true → Elsewhere x T T' → Only ns T T'
   only_one ns x T T' h other y off = other y (λ e. test_clash (subst (λ z. among z ns ≡ true) e h) off)
 
-  only-tells : (ns : List ℕ) (ps : Premises) (ts : List Tell) (T : Table F) → AllByRecursion (λ t. among t.target ns ≡ true) ts → Only ns T (after_tells m ps ts T)
-  unfolding after_tells
-  only-tells ns ps [] T h = λ x off. refl
-  only-tells ns ps (t ∷ ts) T h =
-      let T' = after_tell m ps t T in
-      let p : Only ns T T' = only_one ns t.target T T' h.0 (after_tell_elsewhere ps t T) in
-      cond_both (none m (T' t.target).fact) T' (after_tells m ps ts T') (Only ns T)
-      (λ e. p)
-      (λ e x off. only-tells ns ps ts T' h.1 x off ∙ p x off)
-
-  only_deads : (ns : List ℕ) (ps : Premises) (ms xs : List ℕ) (T : Table F) → AllByRecursion (λ x. among x ns ≡ true) xs → Only ns T (after_deads m ps ms xs T)
-  unfolding after_deads
-  only_deads ns ps ms [] T h x off = refl
-  only_deads ns ps ms (y ∷ ys) T h x off =
-      let T' = after_dead m ps ms y T in
-      only_deads ns ps ms ys T' h.1 x off ∙ only_one ns y T T' h.0 (after_dead_elsewhere ps ms y T) x off
-
   pub only-fired : (k : Constraint) (T : Table F) → Only (named k.form) T (fired m k T)
-  unfolding fired
   only-fired k T =
       let ns = named k.form in
       let ps = owned_by k.owner in
-      let here = all_themselves ns in
-      cond_both (any_in_conflict m (facts T) ns) (after_deads m ps ns ns T) (after_tells m ps (tells k.form) T) (Only ns T)
-      (λ e. only_deads ns ps ns ns T here)
-      (λ e. only-tells ns ps (tells k.form) T (tells_targets (λ x. among x ns ≡ true) k.form here))
+      let Named = λ (x : ℕ). among x ns ≡ true in
+      fired_keeps m (Only ns T) k
+      (all_weaker (λ t. Named t.target) (TellKeeps m (Only ns T) ps)
+      (λ t h U p x off. only_one ns t.target U (after_tell m ps t U) h (after_tell_elsewhere ps t U) x off ∙ p x off)
+      (tells k.form) (tells_targets Named k.form (all_themselves ns)))
+      (all_weaker Named (DeadKeeps m (Only ns T) ps ns)
+      (λ y h U p x off. only_one ns y U (after_dead m ps ns y U) h (after_dead_elsewhere ps ns y U) x off ∙ p x off)
+      ns (all_themselves ns))
+      T (λ x off. refl)
 
   -- ---- a tell leaves its own condition as it was
 

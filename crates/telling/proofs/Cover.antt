@@ -15,7 +15,8 @@ use Rattle.telling.specs.Reasons.{Reasons, Among, together, premises_only}
 use Rattle.telling.specs.Tables.{Cell, Table, facts, reasons_of}
 use Rattle.telling.specs.Telling.{is_made, said_fact, tell_reasons, told_cell, after_told, after_tell}
 use Rattle.telling.specs.Firing.{after_tells, after_dead, after_deads, any_in_conflict, fired}
-use Rattle.telling.proofs.Cases.{upd_cases, any_implied, all_of}
+use Rattle.telling.proofs.Cases.{upd_cases, any_implied, all_of, all_weaker}
+use Rattle.telling.proofs.Keeps.{TellKeeps, DeadKeeps, tells_keep, deads_keep}
 use Rattle.telling.proofs.Fires.{after_dead_below}
 
 -- What a table is measured against: `Covers x f` says that the fact f of cell x goes no further, and no reasons but those of r count. A stable table gives a cover, and so does a placement.
@@ -78,7 +79,7 @@ module _ {F : Type 0} (m : Model F) (l : Laws m) (W : Cover m) where
   after_told-sound x g s T ok new y =
       upd_cases (SoundAt y) T x (told_cell m g s (T x)) y (λ e. subst (λ z. SoundAt z (told_cell m g s (T x))) e (told_cell-sound x g s (T x) (ok x) new)) (ok y)
 
-  pub after_tell-sound : (ps : Premises) (t : Tell) (T : Table F) → (Among (premises_only ps) W.r → FairTell t) → Sound T → Sound (after_tell m ps t T)
+  after_tell-sound : (ps : Premises) (t : Tell) (T : Table F) → (Among (premises_only ps) W.r → FairTell t) → Sound T → Sound (after_tell m ps t T)
   unfolding after_tell
   after_tell-sound ps t T fair ok =
       let g = said_fact m (facts T) t in
@@ -90,39 +91,34 @@ module _ {F : Type 0} (m : Model F) (l : Laws m) (W : Cover m) where
       (reasons_of-sound T ok (reads t) (among_right (premises_only ps) (reasons_of T (reads t)) held)) e))
       (λ e. ok)
 
-  pub after_tells-sound : (ps : Premises) (ts : List Tell) (T : Table F) → (Among (premises_only ps) W.r → AllByRecursion FairTell ts) → Sound T → Sound (after_tells m ps ts T)
-  unfolding after_tells
-  after_tells-sound ps [] T fair ok = ok
-  after_tells-sound ps (t ∷ ts) T fair ok =
-      let T' = after_tell m ps t T in
-      let ok' : Sound T' = after_tell-sound ps t T (λ h. (fair h).0) ok in
-      cond_both (none m (T' t.target).fact) T' (after_tells m ps ts T')
-      Sound
-      (λ e. ok')
-      (λ e. after_tells-sound ps ts T' (λ h. (fair h).1) ok')
-
-  pub after_dead-sound : (ps : Premises) (ns : List ℕ) (x : ℕ) (T : Table F) → (Among (premises_only ps) W.r → FairDead ns x) → any_in_conflict m (facts T) ns ≡ true → Sound T → Sound (after_dead m ps ns x T)
+  after_dead-sound : (ps : Premises) (ns : List ℕ) (x : ℕ) (T : Table F) → (Among (premises_only ps) W.r → FairDead ns x) → any_in_conflict m (facts T) ns ≡ true → Sound T → Sound (after_dead m ps ns x T)
   unfolding after_dead
   after_dead-sound ps ns x T fair e ok =
       after_told-sound x (dead m) (together (premises_only ps) (reasons_of T ns)) T ok
       (λ held. fair (among_left (premises_only ps) (reasons_of T ns) held) (facts T) (reasons_of-sound T ok ns (among_right (premises_only ps) (reasons_of T ns) held)) e)
 
-  pub after_deads-sound : (ps : Premises) (ns xs : List ℕ) (T : Table F) → (Among (premises_only ps) W.r → AllByRecursion (FairDead ns) xs) → any_in_conflict m (facts T) ns ≡ true → Sound T → Sound (after_deads m ps ns xs T)
-  unfolding after_deads
-  after_deads-sound ps ns [] T fair e ok = ok
-  after_deads-sound ps ns (x ∷ xs) T fair e ok =
+  -- What follows from what holds of all of a list holds of each.
+  all_under : {A : Type 0} {H : Type 0} (P : A → Type 0) (xs : List A) → (H → AllByRecursion P xs) → AllByRecursion (λ x. H → P x) xs
+  all_under P [] f = tt
+  all_under P (x ∷ xs) f = (λ h. (f h).0, all_under P xs (λ h. (f h).1))
+
+  -- A conflict among facts is one among facts that tell more.
+  conflict_stays : (ps : Premises) (ns : List ℕ) (x : ℕ) (T : Table F) → any_in_conflict m (facts T) ns ≡ true → any_in_conflict m (facts (after_dead m ps ns x T)) ns ≡ true
+  conflict_stays ps ns x T e =
       let T' = after_dead m ps ns x T in
-      after_deads-sound ps ns xs T' (λ h. (fair h).1)
-      (any_implied (λ y. none m (T y).fact) (λ y. none m (T' y).fact) ns
-      (all_of (λ y. none m (T y).fact ≡ true → none m (T' y).fact ≡ true) (λ y. none_mono m l (T' y).fact (T y).fact (after_dead_below m l ps ns x T y)) ns) e)
-      (after_dead-sound ps ns x T (λ h. (fair h).0) e ok)
+      any_implied (λ y. none m (T y).fact) (λ y. none m (T' y).fact) ns
+      (all_of (λ y. none m (T y).fact ≡ true → none m (T' y).fact ≡ true) (λ y. none_mono m l (T' y).fact (T y).fact (after_dead_below m l ps ns x T y)) ns) e
 
   pub fired-sound : (k : Constraint) → Fair k → (T : Table F) → Sound T → Sound (fired m k T)
   unfolding fired
   fired-sound k fair T ok =
       let ns = named k.form in
       let ps = owned_by k.owner in
+      let Clashing = λ (U : Table F). (any_in_conflict m (facts U) ns ≡ true) × Sound U in
+      let Held = Among (premises_only ps) W.r in
       cond_both (any_in_conflict m (facts T) ns) (after_deads m ps ns ns T) (after_tells m ps (tells k.form) T)
       Sound
-      (λ e. after_deads-sound ps ns ns T fair.fair_deads e ok)
-      (λ e. after_tells-sound ps (tells k.form) T fair.fair_tells ok)
+      (λ e. (deads_keep m Clashing ps ns ns
+      (all_weaker (λ x. Held → FairDead ns x) (DeadKeeps m Clashing ps ns) (λ x f U c. (conflict_stays ps ns x U c.0, after_dead-sound ps ns x U f c.0 c.1)) ns (all_under (FairDead ns) ns fair.fair_deads)) T (e, ok)).1)
+      (λ e. tells_keep m Sound ps (tells k.form)
+      (all_weaker (λ t. Held → FairTell t) (TellKeeps m Sound ps) (λ t f U. after_tell-sound ps t U f) (tells k.form) (all_under FairTell (tells k.form) fair.fair_tells)) T ok)

@@ -19,7 +19,8 @@ use Rattle.telling.specs.Reasons.{Reasons, together, premises_only}
 use Rattle.telling.specs.Tables.{Cell, Table, facts, reasons_of}
 use Rattle.telling.specs.Telling.{is_made, said_fact, tell_reasons, told_cell, after_told, after_tell}
 use Rattle.telling.specs.Firing.{after_tells, after_dead, after_deads, any_in_conflict, fired}
-use Rattle.telling.proofs.Cases.{upd_cases, upd-here, any_none}
+use Rattle.telling.proofs.Cases.{upd_cases, upd-here, any_none, all_of}
+use Rattle.telling.proofs.Keeps.{TellKeeps, DeadKeeps, tells_keep, deads_keep}
 use Rattle.telling.proofs.Tells.{told-dead, told_cell-fact, told_cell-tells}
 
 -- What holds of each cell that a form names holds of each target of its tells.
@@ -102,14 +103,9 @@ module _ {F : Type 0} (m : Model F) (l : Laws m) where
   -- ---- tells in their order
 
   pub after_tells_below : (ps : Premises) (ts : List Tell) (T : Table F) → Below m (facts (after_tells m ps ts T)) (facts T)
-  unfolding after_tells
-  after_tells_below ps [] T = below_refl (facts T)
-  after_tells_below ps (t ∷ ts) T =
-      let T' = after_tell m ps t T in
-      cond_both (none m (T' t.target).fact) T' (after_tells m ps ts T')
-      (λ z. Below m (facts z) (facts T))
-      (λ e. after_tell_below ps t T)
-      (λ e. below_trans (facts (after_tells m ps ts T')) (facts T') (facts T) (after_tells_below ps ts T') (after_tell_below ps t T))
+  after_tells_below ps ts T =
+      let Kept = λ (U : Table F). Below m (facts U) (facts T) in
+      tells_keep m Kept ps ts (all_of (TellKeeps m Kept ps) (λ t U b. below_trans (facts (after_tell m ps t U)) (facts U) (facts T) (after_tell_below ps t U) b) ts) T (below_refl (facts T))
 
   -- Tells that changed nothing had nothing new to say.
   pub after_tells-still : (ps : Premises) (ts : List Tell) (T : Table F) → AllByRecursion (λ t. none m (T t.target).fact ≡ false) ts → facts (after_tells m ps ts T) ≡ facts T → AllByRecursion (CalmTell m (facts T)) ts
@@ -162,11 +158,9 @@ module _ {F : Type 0} (m : Model F) (l : Laws m) where
   after_dead_calm ps ns x T e = after_told_calm x (dead m) (together (premises_only ps) (reasons_of T ns)) T (told-dead m l (T x).fact ∙ sym e)
 
   pub after_deads_below : (ps : Premises) (ns xs : List ℕ) (T : Table F) → Below m (facts (after_deads m ps ns xs T)) (facts T)
-  unfolding after_deads
-  after_deads_below ps ns [] T = below_refl (facts T)
-  after_deads_below ps ns (x ∷ xs) T =
-      let T' = after_dead m ps ns x T in
-      below_trans (facts (after_deads m ps ns xs T')) (facts T') (facts T) (after_deads_below ps ns xs T') (after_dead_below ps ns x T)
+  after_deads_below ps ns xs T =
+      let Kept = λ (U : Table F). Below m (facts U) (facts T) in
+      deads_keep m Kept ps ns xs (all_of (DeadKeeps m Kept ps ns) (λ x U b. below_trans (facts (after_dead m ps ns x U)) (facts U) (facts T) (after_dead_below ps ns x U) b) xs) T (below_refl (facts T))
 
   pub after_deads-still : (ps : Premises) (ns xs : List ℕ) (T : Table F) → facts (after_deads m ps ns xs T) ≡ facts T → AllByRecursion (λ x. (T x).fact ≡ dead m) xs
   unfolding after_deads

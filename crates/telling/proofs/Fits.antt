@@ -4,7 +4,7 @@ use Rattle.std.proofs.lemmas.Bool.{cond_both, or_cases}
 use Rattle.statements.proofs.Tests.{test_clash}
 use Rattle.facts.specs.Model.{Model}
 use Rattle.facts.specs.Laws.{Laws}
-use Rattle.facts.specs.Derived.{none, tidy, dead, told}
+use Rattle.facts.specs.Derived.{tidy, dead, told}
 use Rattle.facts.proofs.TidyLaws.{told-tidy, start_tidy}
 use Rattle.plan.specs.Forms.{named}
 use Rattle.plan.specs.Placements.{Premises, owned_by}
@@ -14,8 +14,9 @@ use Rattle.forms.specs.declared.tell.Tell.{Tell}
 use Rattle.telling.specs.Reasons.{Reasons, Among, together, premises_only}
 use Rattle.telling.specs.Tables.{Cell, Table, facts, reasons_of, start_cell}
 use Rattle.telling.specs.Telling.{is_made, said_fact, tell_reasons, told_cell, after_told, after_tell}
-use Rattle.telling.specs.Firing.{after_tells, after_dead, after_deads, any_in_conflict, fired}
-use Rattle.telling.proofs.Cases.{upd_cases}
+use Rattle.telling.specs.Firing.{after_dead, fired}
+use Rattle.telling.proofs.Cases.{upd_cases, all_of}
+use Rattle.telling.proofs.Keeps.{TellKeeps, DeadKeeps, fired_keeps}
 
 module _ {F : Type 0} (m : Model F) (l : Laws m) (r : Reasons) where
   -- The cell's fact is its own tidy, and its reasons are among r.
@@ -60,27 +61,15 @@ module _ {F : Type 0} (m : Model F) (l : Laws m) (r : Reasons) where
       (λ e. after_told-fits t.target (said_fact m (facts T) t) (tell_reasons m ps t T) T ok (together-among (premises_only ps) (reasons_of T (reads t)) own (reasons_of-among T ok (reads t))))
       (λ e. ok)
 
-  after_tells-fits : (ps : Premises) (ts : List Tell) (T : Table F) → Among (premises_only ps) r → Fits T → Fits (after_tells m ps ts T)
-  unfolding after_tells
-  after_tells-fits ps [] T own ok = ok
-  after_tells-fits ps (t ∷ ts) T own ok =
-      let T' = after_tell m ps t T in
-      let ok' : Fits T' = after_tell-fits ps t T own ok in
-      cond_both (none m (T' t.target).fact) T' (after_tells m ps ts T') Fits (λ e. ok') (λ e. after_tells-fits ps ts T' own ok')
-
-  after_deads-fits : (ps : Premises) (ns xs : List ℕ) (T : Table F) → Among (premises_only ps) r → Fits T → Fits (after_deads m ps ns xs T)
-  unfolding after_deads after_dead
-  after_deads-fits ps ns [] T own ok = ok
-  after_deads-fits ps ns (x ∷ xs) T own ok =
-      after_deads-fits ps ns xs (after_dead m ps ns x T) own
-      (after_told-fits x (dead m) (together (premises_only ps) (reasons_of T ns)) T ok (together-among (premises_only ps) (reasons_of T ns) own (reasons_of-among T ok ns)))
+  after_dead-fits : (ps : Premises) (ns : List ℕ) (x : ℕ) (T : Table F) → Among (premises_only ps) r → Fits T → Fits (after_dead m ps ns x T)
+  unfolding after_dead
+  after_dead-fits ps ns x T own ok =
+      after_told-fits x (dead m) (together (premises_only ps) (reasons_of T ns)) T ok (together-among (premises_only ps) (reasons_of T ns) own (reasons_of-among T ok ns))
 
   pub fired-fits : (k : Constraint) (T : Table F) → Among (premises_only (owned_by k.owner)) r → Fits T → Fits (fired m k T)
-  unfolding fired
-  fired-fits k T own ok =
+  fired-fits k T own =
       let ns = named k.form in
       let ps = owned_by k.owner in
-      cond_both (any_in_conflict m (facts T) ns) (after_deads m ps ns ns T) (after_tells m ps (tells k.form) T)
-      Fits
-      (λ e. after_deads-fits ps ns ns T own ok)
-      (λ e. after_tells-fits ps (tells k.form) T own ok)
+      fired_keeps m Fits k
+      (all_of (TellKeeps m Fits ps) (λ t U. after_tell-fits ps t U own) (tells k.form))
+      (all_of (DeadKeeps m Fits ps ns) (λ x U. after_dead-fits ps ns x U own) ns) T

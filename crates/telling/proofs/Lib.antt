@@ -1,4 +1,5 @@
 pub mod Cases
+pub mod Keeps
 pub mod Tells
 pub mod Fires
 pub mod Cover

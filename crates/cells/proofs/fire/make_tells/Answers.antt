@@ -42,3 +42,6 @@ returns-then-conflict_at g c =
     ] in
     let all = tells_stop m (owned_by k.owner) (tells k.form) c.loop-t.invariant.so_far t c.next.new.self (table_of m c.make.new.table) c.make.result cs' c.in-Some.ensures.steps c.make.ensures.table c.make.ensures.change grown c.if-conflict_at.ensures in
     record { table = all.0; cells = all.1 }
+
+pub loop-t-init : goal.loop-t-init
+loop-t-init g c = record { fit = search rules; so_far = search rules }
