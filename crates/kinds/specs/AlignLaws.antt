@@ -1,6 +1,7 @@
 -- Align is a lawful kind.
 use Rattle.std.specs.Prelude.{◌≡◌, ℕ, suc, ◌+◌, ◌-◌, ◌*◌, ◌%◌, ◌^◌, ◌<◌, ◌≤◌, true, false, ◌&&◌, ◌≢◌, ℤ, pos, ◌≤ℤ◌, ◌<ℤ◌, ◌==◌, int_le, nat_le, Some, None, Option, refl}
 use Rattle.std.proofs.Common.{Decides, sym, subst, subst₂, ap, ◌∙◌, mod-eq_of_lt, arith, pow_mono, pow_pos}
+use Rattle.std.specs.Cmp.{both_ways}
 use mathlib.Core.HLevel.{is_prop→PathP}
 use Rattle.std.proofs.Math.Bridge.{le_prop}
 use Rattle.std.proofs.Math.Bool.{and_comm}
@@ -17,7 +18,7 @@ use Rattle.statements.specs.Statements.{allowed}
 use Rattle.statements.specs.declared.residue.Residue.{Residue}
 use Rattle.statements.specs.declared.statement.Statement.{Statement}
 use Rattle.statements.specs.declared.statement.Statement.TheVariants.{Between, Aligned}
-use Rattle.statements.proofs.Tests.{then_some_both, test_cases, test_clash, test_ext, le_made, le_no}
+use Rattle.statements.proofs.Tests.{then_some_both, test_cases, test_clash, le_made, le_no}
 use Rattle.statements.proofs.Aligneds.{aligned_within, aligned-rest, rest-aligned}
 use Rattle.statements.proofs.Multiples.{rest_below}
 use Rattle.statements.proofs.Searches.{lowest_le, highest_ge, lowest_none, highest_none, lowest_mono, highest_mono}
@@ -91,7 +92,7 @@ align_within f = go f.0
 finer-allows : (a b : Residue) (n : ℤ) → b.k ≤ a.k → align_allows (finer a b) n ≡ (aligned a n && aligned b n)
 finer-allows a b n le =
     then_some_both (λ o. align_allows (align_of o) n ≡ (aligned a n && aligned b n)) (a.r % 2 ^ b.k == b.r) a
-    (λ e. test_ext (aligned a n) (aligned a n && aligned b n)
+    (λ e. both_ways (aligned a n) (aligned a n && aligned b n)
     (λ h. and_from _ _ h (rest-aligned b n (aligned_within a n h) (rest_coarser b.k a.k n le ∙ ap (λ x. x % 2 ^ b.k) (aligned-rest a n h) ∙ eqb-true _ _ e)))
     (λ h. (and_parts (aligned a n) (aligned b n) h).0))
     (λ e. sym (false_from_ne_true (aligned a n && aligned b n) (λ h.

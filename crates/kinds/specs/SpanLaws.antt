@@ -1,6 +1,7 @@
 -- Span is a lawful kind, and exact.
 use Rattle.std.specs.Prelude.{◌≡◌, ◌<◌, Bool, true, false, ◌&&◌, ◌≢◌, ℤ, pos, negsuc, ◌+ℤ◌, ◌-ℤ◌, ◌≤ℤ◌, ◌<ℤ◌, Some, None, Option, int_le, refl}
 use Rattle.std.proofs.Common.{Decides, sym, ap, ◌∙◌, arith}
+use Rattle.std.specs.Cmp.{both_ways}
 use mathlib.Core.HLevel.{is_prop→PathP}
 use Rattle.std.proofs.Math.Dec.{T_prop}
 use Rattle.std.specs.Int.{int_max, int_min}
@@ -15,7 +16,7 @@ use Rattle.statements.specs.Statements.{allowed}
 use Rattle.statements.specs.declared.statement.Statement.{Statement}
 use Rattle.statements.specs.declared.statement.Statement.TheVariants.{Between}
 use Rattle.std.proofs.lemmas.Bool.{and_from, and_parts, and_right}
-use Rattle.statements.proofs.Tests.{test_cases, test_clash, test_ext, le_of, le_no_of, inside_made, inside_of, inside_below, inside_above}
+use Rattle.statements.proofs.Tests.{test_cases, test_clash, le_of, le_no_of, inside_made, inside_of, inside_below, inside_above}
 use Rattle.statements.proofs.Betweens.{inside-least, inside_greatest}
 use Rattle.statements.proofs.Searches.{lowest_le, highest_ge, lowest-some, highest-some, lowest_none, highest_none, allows_none_of, lowest_is, highest_is}
 use Rattle.statements.proofs.Statements.{allowed_within}
@@ -109,7 +110,7 @@ span-sound s n h =
 
 pub span_exact : Exact span_model
 span_exact lo hi n =
-    test_ext (span_allows (span_stated (Between lo hi)) n) (between lo hi n)
+    both_ways (span_allows (span_stated (Between lo hi)) n) (between lo hi n)
     (λ h.
     let i = inside_of (raised l) (lowered g) n (sym (cut-allows l g n) ∙ h) in
     test_cases (allows_none a)
@@ -146,7 +147,7 @@ span_meet-allows f g = go f.0 g.0
     go (Some e) (Some d) n =
         let lo = int_max e.lo d.lo in
         let hi = int_min e.hi d.hi in
-        cut-allows lo hi n ∙ test_ext (between lo hi n) (inside e.lo e.hi n && inside d.lo d.hi n)
+        cut-allows lo hi n ∙ both_ways (between lo hi n) (inside e.lo e.hi n && inside d.lo d.hi n)
         (λ h.
         let p = inside_of (raised lo) (lowered hi) n h in
         and_from _ _ (inside_made e.lo e.hi n (omega (arith, ints, clamps)) (omega (arith, ints, clamps))) (inside_made d.lo d.hi n (omega (arith, ints, clamps)) (omega (arith, ints, clamps))))

@@ -1,8 +1,8 @@
 -- What no network does.
 use Rattle.std.proofs.Common.{◌≡◌, ℕ, zero, suc, ◌+◌, ◌<◌, ◌≤◌, true, false, not, eqb, List, [], ◌∷◌, Some, Option, sym, refl, ap, ◌∙◌, subst, arith}
 use Rattle.std.specs.List.{slice_get}
-use Rattle.std.proofs.lemmas.Bool.{cond_both, cond-true, cond-false, eqb-true, eq-eqb}
-use Rattle.statements.proofs.Tests.{test_clash, test_cases, test_no}
+use Rattle.std.proofs.lemmas.Bool.{cond_both, cond-true, cond-false, eqb-true, eq-eqb, false_from_ne_true}
+use Rattle.statements.proofs.Tests.{test_clash, test_cases}
 use Rattle.facts.specs.Model.{Model}
 use Rattle.facts.specs.Laws.{Laws}
 use Rattle.plan.specs.Placements.{Placed, Premises, owned_by}
@@ -33,7 +33,7 @@ others p (premise q) = not (eqb p q)
 others p (guess g) = true
 
 others_hold : (p : ℕ) (r : Reasons) → r (premise p) ≡ false → Among r (others p)
-others_hold p r free (premise q) e = ap not (test_no (eqb p q) (λ same. test_clash e (subst (λ z. r (premise z) ≡ false) (eqb-true p q same) free)))
+others_hold p r free (premise q) e = ap not (false_from_ne_true (eqb p q) (λ same. test_clash e (subst (λ z. r (premise z) ≡ false) (eqb-true p q same) free)))
 others_hold p r free (guess g) e = refl
 
 pub own_reasons-only : {F : Type 0} (m : Model F) → Laws m → OwnReasonsOnly m
@@ -44,7 +44,7 @@ own_reasons-only {F} m l N force j k at p free b tidy clear x =
     (λ e.
     let fits : Fits m l (others p) (fired m k b.table) =
     fired-fits m l (others p) k b.table (others_hold p (premises_only (owned_by k.owner)) free) (λ y. record { tidy = tidy y; scope = others_hold p (b.table y).reasons (clear y) }) in
-    test_no ((fired m k b.table x).reasons (premise p)) (λ h. test_clash ((fits x).scope (premise p) h) (ap not (eq-eqb p p refl))))
+    false_from_ne_true ((fired m k b.table x).reasons (premise p)) (λ h. test_clash ((fits x).scope (premise p) h) (ap not (eq-eqb p p refl))))
     (λ e. clear x))
 
 -- ---- budgets

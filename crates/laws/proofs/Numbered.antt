@@ -3,7 +3,8 @@ use Rattle.std.proofs.Common.{◌≡◌, ℕ, zero, suc, ◌<◌, ◌≤◌, Boo
 use Rattle.std.specs.List.{slice_get, AllByRecursion}
 use Rattle.std.proofs.lemmas.Option.{none-some}
 use Rattle.std.proofs.lemmas.Bool.{cond_both, ltb-true, eqb-true, or_cases, or_parts, or_left, or_right, cases_eq, cases_lt, and_parts, not-true}
-use Rattle.statements.proofs.Tests.{test_clash, test_cases, and_made}
+use Rattle.std.specs.Cmp.Derive.{both_true}
+use Rattle.statements.proofs.Tests.{test_clash, test_cases}
 use Rattle.sets.specs.Members.{Members, inside, count}
 use Rattle.sets.proofs.Counts.{count_le}
 use Rattle.plan.specs.Forms.{named}
@@ -64,7 +65,7 @@ inside_at s t (suc n) p e lt h =
 pub inside_made : (s t : Members) (n : ℕ) → ((p : ℕ) → s p ≡ true → t p ≡ true) → inside s t n ≡ true
 unfolding inside
 inside_made s t zero h = refl
-inside_made s t (suc n) h = and_made (test_cases {P = (not (s n) || t n) ≡ true} (s n) (λ e. or_right (not (s n)) (t n) (h n e)) (λ e. or_left (not (s n)) (t n) (ap not e))) (inside_made s t n h)
+inside_made s t (suc n) h = both_true (test_cases {P = (not (s n) || t n) ≡ true} (s n) (λ e. or_right (not (s n)) (t n) (h n e)) (λ e. or_left (not (s n)) (t n) (ap not e))) (inside_made s t n h)
 
 pub any_below_no : (n : ℕ) (s : Members) → any_below n s ≡ false → (j : ℕ) → j < n → s j ≡ false
 unfolding any_below

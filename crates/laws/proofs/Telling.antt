@@ -2,8 +2,9 @@
 use Rattle.std.proofs.Common.{◌≡◌, ℕ, suc, ◌<◌, ◌≤◌, true, eqb, List, [], ◌∷◌, Some, sym, refl, ◌∙◌, subst, arith}
 use Rattle.std.specs.List.{AllByRecursion}
 use Rattle.std.proofs.lemmas.Bool.{cond_both, cond-true, eqb-true, eq-eqb, lt-ltb}
+use Rattle.std.specs.Cmp.Derive.{both_true}
 use Rattle.statements.specs.Numbers.{top, bottom}
-use Rattle.statements.proofs.Tests.{test_clash, and_made}
+use Rattle.statements.proofs.Tests.{test_clash}
 use Rattle.facts.specs.Model.{Model, Tells}
 use Rattle.facts.specs.Laws.{Laws}
 use Rattle.facts.specs.Derived.{none}
@@ -108,7 +109,7 @@ module _ {F : Type 0} (m : Model F) (l : Laws m) (N : Net) where
             r = r;
             Covers = λ x f. m.allows f (v x) ≡ true;
             covers_start = λ x. start-allows m l (v x) (placed v P x);
-            covers_told = λ x f g p q. told-allows m l g f (v x) ∙ and_made p q;
+            covers_told = λ x f g p q. told-allows m l g f (v x) ∙ both_true p q;
             covers_tidy = λ x g p. tidy_allows m l g (v x) ∙ p;
           } in
           after_told-sound m l cover w.cell (m.stated w.says) w.reasons T (ok.1 v P r met)

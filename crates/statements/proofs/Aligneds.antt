@@ -4,11 +4,12 @@ use Rattle.std.specs.Bool.{then_some}
 use Rattle.std.specs.Prelude.{int_le}
 use Rattle.std.proofs.lemmas.Int.{ints, clamps, by_lt_z}
 use Rattle.std.proofs.lemmas.Bool.{and_from, and_parts, eq-eqb, eqb-true, false_from_ne_true}
+use Rattle.std.specs.Cmp.{both_ways}
 use Rattle.statements.specs.Numbers.{top, bottom, inside, InU, Within, raised, lowered}
 use Rattle.statements.specs.Search.{LeastFrom, GreatestTo}
 use Rattle.statements.specs.Aligned.{multiple, aligned, rest}
 use Rattle.statements.specs.declared.residue.Residue.{Residue}
-use Rattle.statements.proofs.Tests.{test_ext, then_some_both, le_of, le_no_of, inside_made, inside_of}
+use Rattle.statements.proofs.Tests.{then_some_both, le_of, le_no_of, inside_made, inside_of}
 use Rattle.statements.proofs.Multiples.{Multiple, multiple_of, multiple_made, multiple-gap, multiple_neg, rest_below, rest-multiple, rest_unique}
 
 module _ (a : Residue) where
@@ -38,7 +39,7 @@ module _ (a : Residue) where
       let d = 2 ^ a.k in
       let z = n -ℤ pos a.r in
       let some = pow_pos a.k in
-      test_ext (eqb (rest d z) 0) (aligned a n)
+      both_ways (eqb (rest d z) 0) (aligned a n)
       (λ e. let none : rest d z ≡ 0 = eqb-true _ _ e in let same : (z -ℤ pos (rest d z)) ≡ z = omega (arith, ints) in
       aligned_made n u (subst (Multiple d) same (rest-multiple d z some)))
       (λ e. let m = (aligned_of n e).1 in let same : z ≡ (z -ℤ pos 0) = omega (arith, ints) in

@@ -1,5 +1,6 @@
 -- Tests as facts: yes and no, and the order of whole numbers.
-use Rattle.std.proofs.Common.{◌≡◌, Bool, true, false, ◌&&◌, T, Some, None, Option, ℤ, ◌≤ℤ◌, ◌<ℤ◌, sym, refl, ◌∙◌, subst, arith}
+use Rattle.std.proofs.Common.{◌≡◌, Bool, true, false, T, Some, None, Option, ℤ, ◌≤ℤ◌, ◌<ℤ◌, sym, refl, ◌∙◌, subst, arith}
+use Rattle.std.proofs.lemmas.Float.{T_from_true}
 use lib.Signed.{le_z}
 use Rattle.std.proofs.lemmas.Bool.{and_parts}
 use Rattle.std.specs.Bool.{then_some}
@@ -8,37 +9,13 @@ use Rattle.statements.specs.Numbers.{top, bottom, inside, raised, lowered}
 
 -- ---- yes and no
 
-pub test_t : (b : Bool) → b ≡ true → T b
-test_t b e = subst T (sym e) tt
-
 -- No test is both yes and no.
 pub test_clash : {X : Type 0} {b : Bool} → b ≡ true → b ≡ false → X
 test_clash p q = absurd (subst T (sym p ∙ q) tt)
 
-pub test_no : (b : Bool) → (b ≡ true → ⊥) → b ≡ false
-test_no true h = absurd (h refl)
-test_no false h = refl
-
 pub test_cases : {P : Type 0} (b : Bool) → (b ≡ true → P) → (b ≡ false → P) → P
 test_cases true p q = p refl
 test_cases false p q = q refl
-
--- Two tests that imply each other are equal.
-pub test_ext : (a b : Bool) → (a ≡ true → b ≡ true) → (b ≡ true → a ≡ true) → a ≡ b
-test_ext true b p q = sym (p refl)
-test_ext false true p q = q refl
-test_ext false false p q = refl
-
-pub and_made : {a b : Bool} → a ≡ true → b ≡ true → (a && b) ≡ true
-and_made {a} {b} p q = subst (λ x. (x && b) ≡ true) (sym p) q
-
-pub and_left : (a b : Bool) → (a && b) ≡ true → a ≡ true
-and_left true b e = refl
-and_left false b e = e
-
-pub and_right : (a b : Bool) → (a && b) ≡ true → b ≡ true
-and_right true b e = e
-and_right false b e = test_clash e refl
 
 -- What holds of Some x where the test is yes, and of None where it is no, holds of what `then_some` gives.
 pub then_some_both : {A : Type 0} (P : Option A → Type 0) (b : Bool) (x : A) → (b ≡ true → P (Some x)) → (b ≡ false → P None) → P (then_some b x)
@@ -51,7 +28,7 @@ pub le_made : (a b : ℤ) → a ≤ℤ b → le_z a b ≡ true
 le_made a b h = grind (arith, ints)
 
 pub le_of : (a b : ℤ) → le_z a b ≡ true → a ≤ℤ b
-le_of a b e = record { le = test_t (le_z a b) e }
+le_of a b e = record { le = T_from_true (le_z a b) e }
 
 pub le_no : (a b : ℤ) → b <ℤ a → le_z a b ≡ false
 le_no a b h = grind (arith, ints)

@@ -2,8 +2,8 @@
 use Rattle.std.proofs.Common.{◌≡◌, ℕ, Bool, true, false, cond, not, ◌||◌, eqb, List, [], ◌∷◌, ◌++◌, sym, refl, ap, ◌∙◌, subst, ap₂, ⊎_elim}
 use mathlib.Core.Path.{fun_ext}
 use Rattle.std.proofs.Math.Bool.{or_assoc}
-use Rattle.std.proofs.lemmas.Bool.{cond_both, cond-false, cases_eq, eq-eqb, ne_eqb, or_left}
-use Rattle.statements.proofs.Tests.{test_clash, test_cases, test_no}
+use Rattle.std.proofs.lemmas.Bool.{cond_both, cond-false, cases_eq, eq-eqb, ne_eqb, or_left, false_from_ne_true}
+use Rattle.statements.proofs.Tests.{test_clash, test_cases}
 use Rattle.facts.specs.Model.{Model, Tells}
 use Rattle.facts.specs.Laws.{Laws}
 use Rattle.facts.specs.Derived.{none, dead, told}
@@ -51,7 +51,7 @@ module _ {F : Type 0} (m : Model F) (l : Laws m) where
       ap (λ z. not (m.equal z h)) fg ∙ ap (λ z. not z || not (m.equal g h)) (sym e))
       (λ e.
       let ne : m.equal f h ≡ false =
-      test_no (m.equal f h) (λ p.
+      false_from_ne_true (m.equal f h) (λ p.
       let fh : f ≡ h = (l.equal_decides f h).0 p in
       test_clash ((l.equal_decides f g).1 (tells_antisym m l f g (subst (λ z. Tells m z g) (sym fh) (b₂ x)) (b₁ x))) e) in
       ap not ne ∙ ap (λ z. not z || not (m.equal g h)) (sym e))

@@ -1,5 +1,6 @@
 -- A placement covers what allows its numbers.
 use Rattle.std.proofs.Common.{◌≡◌, ℕ, true, false, List, ℤ, pos, ◌+ℤ◌, ◌-ℤ◌, ◌≤ℤ◌, ◌<ℤ◌, refl, ◌∙◌, arith}
+use Rattle.std.proofs.lemmas.Float.{T_from_true}
 use lib.Signed.{lt_z}
 use Rattle.std.specs.List.{AllByRecursion}
 use Rattle.std.proofs.lemmas.Int.{ints, clamps}
@@ -9,7 +10,7 @@ use Rattle.statements.specs.Statements.{allowed}
 use Rattle.statements.specs.declared.statement.Statement.{Statement}
 use Rattle.statements.proofs.Searches.{least_from_le, greatest_to_ge}
 use Rattle.statements.proofs.Statements.{allowed_within}
-use Rattle.statements.proofs.Tests.{test_t, inside_made}
+use Rattle.statements.proofs.Tests.{inside_made}
 use Rattle.facts.specs.Model.{Model}
 use Rattle.facts.specs.Laws.{Laws}
 use Rattle.facts.specs.Derived.{none, told}
@@ -44,7 +45,7 @@ between_made : (lo hi n : ℤ) → InU n → lo ≤ℤ n → n ≤ℤ hi → bet
 between_made lo hi n u p q = let a = u.0 in let b = u.1 in inside_made (raised lo) (lowered hi) n (omega (arith, ints, clamps)) (omega (arith, ints, clamps))
 
 less_of : (a b : ℤ) → lt_z a b ≡ true → a <ℤ b
-less_of a b e = record { lt = test_t (lt_z a b) e }
+less_of a b e = record { lt = T_from_true (lt_z a b) e }
 
 module _ (v : Placement) (P : Placed v) where
   -- What the tell says, wherever the cells that it reads lie around the placement, allows its target's number.

@@ -1,5 +1,6 @@
 -- A stable table covers what it tells at least as much as.
 use Rattle.std.proofs.Common.{◌≡◌, ℕ, true, List, ℤ, pos, ◌+ℤ◌, ◌-ℤ◌, ◌≤ℤ◌, ◌<ℤ◌, sym, refl, subst, ⊎_elim, arith}
+use Rattle.std.proofs.lemmas.Float.{T_from_true}
 use lib.Signed.{lt_z, ≤ℤ_refl}
 use Rattle.std.specs.List.{AllByRecursion}
 use Rattle.std.proofs.lemmas.Int.{ints}
@@ -8,7 +9,7 @@ use Rattle.statements.specs.Statements.{allowed}
 use Rattle.statements.specs.declared.statement.Statement.{Statement}
 use Rattle.statements.proofs.Searches.{least_from_mono, greatest_to_mono}
 use Rattle.statements.proofs.Statements.{allowed_within}
-use Rattle.statements.proofs.Tests.{test_clash, test_t}
+use Rattle.statements.proofs.Tests.{test_clash}
 use Rattle.facts.specs.Model.{Model, Tells}
 use Rattle.facts.specs.Laws.{Laws}
 use Rattle.facts.specs.Derived.{none, tidy, dead}
@@ -42,7 +43,7 @@ abbrev Closer : (lo hi lo' hi' : ℕ → ℤ) → ℕ → Type 0
 Closer lo hi lo' hi' x = (lo x ≤ℤ lo' x) × (hi' x ≤ℤ hi x)
 
 less_mono : (x y x' y' : ℤ) → x' ≤ℤ x → y ≤ℤ y' → lt_z x y ≡ true → lt_z x' y' ≡ true
-less_mono x y x' y' p q e = let r : x <ℤ y = record { lt = test_t (lt_z x y) e } in grind (arith, ints)
+less_mono x y x' y' p q e = let r : x <ℤ y = record { lt = T_from_true (lt_z x y) e } in grind (arith, ints)
 
 -- A condition that holds goes on holding.
 pub holds_mono : (lo hi lo' hi' : ℕ → ℤ) (c : Condition) → AllByRecursion (Closer lo hi lo' hi') (condition_reads c) → holds lo hi c ≡ true → holds lo' hi' c ≡ true
