@@ -20,5 +20,5 @@ loop-x-preserved g c =
     let here = subst (Inside (length xs)) c.in-Some.ensures.steps c.loop-x.invariant.inside in
     record {
       inside = here.1;
-      so_far = reasons_more (table_of m xs) (named c.args.form) c.in-Some.x _ c.loop-x.invariant.so_far c.in-Some.ensures.steps (read_reasons m xs c.in-Some.x c.index-table-x.result here.0) c.union-all.ensures;
+      so_far = reasons_more (table_of m xs) (named c.args.form) c.in-Some.x _ c.loop-x.invariant.so_far c.in-Some.ensures.steps (read_reasons m xs c.in-Some.x _ here.0) c.union-all.ensures;
     }

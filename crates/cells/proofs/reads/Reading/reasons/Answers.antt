@@ -12,4 +12,4 @@ returns-in-Above g c =
     let here = subst (Inside (length cells)) (ap condition_reads c.in-Above.is) r.fits.condition.0 in
     let said = saying_reads r.tell.saying in
     rw c.in-Above.is
-    (reasons_beside m cells c.in-Above.a (c.in-Above.b ∷ said) c.index-self-a.result here.0 (reasons_beside m cells c.in-Above.b said c.index-self-b.result here.1.0 c.saying_reasons-said.ensures c.union-rest.ensures) c.union.ensures)
+    (reasons_beside m cells c.in-Above.a (c.in-Above.b ∷ said) _ here.0 (reasons_beside m cells c.in-Above.b said _ here.1.0 c.saying_reasons-said.ensures c.union-rest.ensures) c.union.ensures)

@@ -8,4 +8,4 @@ returns-in-Stated g c = rw c.in-Stated.is c.none.ensures
 pub returns-in-Plus : goal.returns-in-Plus
 returns-in-Plus g c =
     let r = c.args.self.now in
-    reasons_two g.K.Kind.model r.table.now (saying_reads r.tell.saying) c.in-Plus.x c.in-Plus.y c.index-self-x.result c.index-self-y.result (two_read c.in-Plus.is) r.fits.saying.0 c.union.ensures
+    reasons_two g.K.Kind.model r.table.now (saying_reads r.tell.saying) c.in-Plus.x c.in-Plus.y _ _ (two_read c.in-Plus.is) r.fits.saying.0 c.union.ensures
