@@ -54,11 +54,12 @@ pub fn narrow<K: Kind>(facts: &mut [K], s: Statement) -> usize
     let g = K::state(s);
     let mut changed = 0;
     for f in facts.iter_mut() {
-        let h = told(*f, g);
-        if !h.same(*f) {
+        let before = *f;
+        let after = told(before, g);
+        if !after.same(before) {
             changed += 1;
         }
-        *f = h;
+        *f = after;
     }
     changed
 }
