@@ -195,9 +195,6 @@ project_long chip project g h =
     let t : ltb longest (length project) ≡ true = lt-ltb longest (length project) h in
     rw (s, t) refl
 
-pub long_both : (x : ReadError) (f : Fault) (y : Result Items Fault) → x ≡ failed.Fault f → y ≡ Err f → BothRead (Err x) y
-long_both x f y is e = subst (λ z. BothRead (Err z) y) (sym is) e
-
 module _ (chip project : List ℕ) (g : length chip ≤ longest) (h : length project ≤ longest) where
   both : sheets_read chip project ≡ and_then (lines_read (chip ∷ project ∷ []) 0 1 0 (lines_of chip) nothing) (λ d. lines_read (chip ∷ project ∷ []) 1 1 0 (lines_of project) d)
   unfolding sheets_read
