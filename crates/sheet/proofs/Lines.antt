@@ -3,9 +3,10 @@ use Rattle.std.proofs.Common.{◌≡◌, ℕ, ◌≤◌, true, List, [], ◌∷�
 use Rattle.std.proofs.lemmas.List.Elements.{All-head}
 use Rattle.words.specs.declared.Placed.{Placed}
 use Rattle.words.specs.declared.Symbol.TheVariants.{Colon}
-use Rattle.words.specs.Words.{symbol, Spot}
-use Rattle.grammar.specs.Tree.{Name, Owner, Line, cell, premise, constraint, at, name_spot}
-use Rattle.grammar.specs.Parse.{rest, body, name_next, whole, read, parse, parse_line}
+use Rattle.words.specs.declared.Keyword.TheVariants.{Cell, Premise}
+use Rattle.words.specs.Words.{symbol, reserved, Spot}
+use Rattle.grammar.specs.Tree.{Name, Owner, cell, premise, constraint, at, name_spot}
+use Rattle.grammar.specs.Parse.{body, parse, parse_line}
 use Rattle.faults.specs.declared.Found.{Found}
 use Rattle.plan.specs.declared.place.Place.{Place}
 use Rattle.plan.specs.Names.{premise_of}
@@ -17,7 +18,7 @@ use Rattle.sheet.specs.declared.reading.Stop.{Stop}
 use Rattle.sheet.specs.Next.{tree_name}
 use Rattle.sheet.specs.Progress.{Progress, made, further}
 use Rattle.sheet.specs.Reads.{limit, spots}
-use Rattle.sheet.specs.Forms.{plain, Near, NewRead, DeclarationTells, BodyTells, LineLeaves, LineTells}
+use Rattle.sheet.specs.Forms.{plain, Near, NewRead, BodyTells, LineTells}
 use Rattle.sheet.proofs.Same.{first_assoc}
 use Rattle.sheet.proofs.Steps.{says}
 
@@ -34,12 +35,13 @@ name-near (w ∷ ws) us n near is =
     let same : w.column ≡ n.column = ap first_column is in
     omega (arith, All-head (λ v. v.column ≤ 32768) w ws near)
 
-module _ {s : Start} {p m : Progress} {ws : List Placed} {x : Place} (r : NewRead s p ws x m) (e : Progress) where
-  pub cell_declared : e ≡ made m (record { cells = m.items.cells ++ Some x ∷ []; premises = m.items.premises; constraints = m.items.constraints }) → (k : ℕ) → (n : Name) × ((parse limit (rest (name_next (λ n. whole (cell k n)))) (spots ws) ≡ read (cell k n)) × LineLeaves s (cell k n) p e)
-  cell_declared end k = (
-    r.new,
+-- a name that is declared
+module _ {s : Start} {p m : Progress} {vs : List Placed} {x : Place} (r : NewRead s p vs x m) (ws : List Placed) (c : ℕ) (u : Unit {0}) (e : Progress) where
+  pub cell_declared : spots ws ≡ at c (reserved Cell) ∷ spots vs → e ≡ made m (record { cells = m.items.cells ++ Some x ∷ []; premises = m.items.premises; constraints = m.items.constraints }) → LineTells (Ok u) s p ws e
+  cell_declared is end = (
+    cell c r.new,
     (
-      r.goes (cell k),
+      ap (parse_line limit) is ∙ r.goes (cell c),
       record {
         texts = ap (λ x. x.texts) end ∙ ap (λ x. x.texts) r.leaves;
         found = ap (λ x. x.found) end ∙ ap (λ x. x.found) r.leaves;
@@ -48,11 +50,11 @@ module _ {s : Start} {p m : Progress} {ws : List Placed} {x : Place} (r : NewRea
     ),
   )
 
-  pub premise_declared : e ≡ made m (record { cells = m.items.cells; premises = m.items.premises ++ x ∷ []; constraints = m.items.constraints }) → (k : ℕ) → (n : Name) × ((parse limit (rest (name_next (λ n. whole (premise k n)))) (spots ws) ≡ read (premise k n)) × LineLeaves s (premise k n) p e)
-  premise_declared end k = (
-    r.new,
+  pub premise_declared : spots ws ≡ at c (reserved Premise) ∷ spots vs → e ≡ made m (record { cells = m.items.cells; premises = m.items.premises ++ x ∷ []; constraints = m.items.constraints }) → LineTells (Ok u) s p ws e
+  premise_declared is end = (
+    premise c r.new,
     (
-      r.goes (premise k),
+      ap (parse_line limit) is ∙ r.goes (premise c),
       record {
         texts = ap (λ x. x.texts) end ∙ ap (λ x. x.texts) r.leaves;
         found = ap (λ x. x.found) end ∙ ap (λ x. x.found) r.leaves;
@@ -61,11 +63,7 @@ module _ {s : Start} {p m : Progress} {ws : List Placed} {x : Place} (r : NewRea
     ),
   )
 
--- ---- the line
-
-pub line_declares : (f : ℕ → Name → Line) (r : Result (Unit {0}) Stop) (s : Start) (c : ℕ) (p e : Progress) (ws vs : List Placed) → parse_line limit (spots ws) ≡ parse limit (rest (name_next (λ n. whole (f c n)))) (spots vs) → DeclarationTells f r s p vs e → LineTells r s p ws e
-line_declares f (Ok u) s c p e ws vs is d = let w = d c in (f c w.0, (is ∙ w.1.0, w.1.1))
-line_declares f (Err r) s c p e ws vs is d = says r is (d c)
+-- ---- a constraint
 
 second_none : (a b : Option Found) → first a b ≡ None → b ≡ None
 second_none None b h = h

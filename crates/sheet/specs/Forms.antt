@@ -83,11 +83,6 @@ abbrev pub NewTells : Result Place Stop → Start → Progress → List Placed �
 NewTells (Ok x) s p ws e = NewRead s p ws x e
 NewTells (Err r) s p ws e = (f : Name → Line) → Ends r (parse limit (rest (name_next (λ n. whole (f n)))) (spots ws))
 
--- a declaration is read
-abbrev pub DeclarationTells : (ℕ → Name → Line) → Result (Unit {0}) Stop → Start → Progress → List Placed → Progress → Type 0
-DeclarationTells f (Ok u) s p ws e = (c : ℕ) → (n : Name) × ((parse limit (rest (name_next (λ n. whole (f c n)))) (spots ws) ≡ read (f c n)) × LineLeaves s (f c n) p e)
-DeclarationTells f (Err r) s p ws e = (c : ℕ) → Ends r (parse limit (rest (name_next (λ n. whole (f c n)))) (spots ws))
-
 -- a line is read
 abbrev pub LineTells : Result (Unit {0}) Stop → Start → Progress → List Placed → Progress → Type 0
 LineTells (Ok u) s p ws e = (l : Line) × ((parse_line limit (spots ws) ≡ read l) × LineLeaves s l p e)

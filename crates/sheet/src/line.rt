@@ -1,10 +1,9 @@
 // A whole line: nothing, a declaration, or a constraint.
 ghost use Rattle.std.specs.Prelude.{◌≡◌, ◌≤◌};
-ghost use Rattle.grammar.specs.Tree.{cell, premise};
 ghost use Rattle.meaning.specs.Checks.{new_fault};
 ghost use Rattle.sheet.specs.Progress.{progress, further};
 ghost use Rattle.sheet.specs.Next.{tree_name};
-ghost use Rattle.sheet.specs.Forms.{Near, NewTells, DeclarationTells, LineTells};
+ghost use Rattle.sheet.specs.Forms.{Near, NewTells, LineTells};
 
 use crate::next::{Name, after, end, next_name};
 use crate::reading::{Reading, Stop};
@@ -45,28 +44,6 @@ impl<'a> Reading<'a> {
         })
     }
 
-    // `cell N`, after `cell`.
-    fn declare_cell(&mut self, start: Start, words: &[Placed<'a>]) -> Result<(), Stop>
-        requires near { Near words.now }
-        requires inside { start.offset ≤ 32768 }
-        ensures { DeclarationTells cell result start (progress self.old) words.now (progress self.new) }
-    {
-        let place = self.new_place(start, words)?;
-        self.draft.cells.push(Some(place))?;
-        Ok(())
-    }
-
-    // `premise N`, after `premise`.
-    fn declare_premise(&mut self, start: Start, words: &[Placed<'a>]) -> Result<(), Stop>
-        requires near { Near words.now }
-        requires inside { start.offset ≤ 32768 }
-        ensures { DeclarationTells premise result start (progress self.old) words.now (progress self.new) }
-    {
-        let place = self.new_place(start, words)?;
-        self.draft.premises.push(place)?;
-        Ok(())
-    }
-
     // A line by its words.
     pub(crate) fn line(&mut self, start: Start, words: &[Placed<'a>]) -> Result<(), Stop>
         requires near { Near words.now }
@@ -78,8 +55,16 @@ impl<'a> Reading<'a> {
         };
         let column = first.column;
         match first.token {
-            Token::Reserved(Keyword::Cell) => self.declare_cell(start, rest),
-            Token::Reserved(Keyword::Premise) => self.declare_premise(start, rest),
+            Token::Reserved(Keyword::Cell) => {
+                let place = self.new_place(start, rest)?;
+                self.draft.cells.push(Some(place))?;
+                Ok(())
+            }
+            Token::Reserved(Keyword::Premise) => {
+                let place = self.new_place(start, rest)?;
+                self.draft.premises.push(place)?;
+                Ok(())
+            }
             Token::Name(bytes) => match after(rest, Symbol::Colon) {
                 Some(rest) => {
                     let owner = self.premise_named(Name { column, bytes });
