@@ -41,11 +41,9 @@ impl Agenda for Lowest {
         ensures waiting { Taken (holds_wide self.old.members) result (holds_wide self.new.members) }
         ensures order { Least (holds_wide self.old.members) result }
     {
-        let least = self.members.lowest();
-        if let Some(constraint) = least {
-            self.members.remove(constraint);
-        }
-        least
+        let least = self.members.lowest()?;
+        self.members.remove(least);
+        Some(least)
     }
 
     fn empty(&mut self) {
