@@ -1,11 +1,12 @@
 -- Sixteen sets of numbers below 32 as one: what the marks tell, and the least member.
-use Rattle.std.proofs.Common.{◌≡◌, ℕ, ◌+◌, ◌*◌, ◌/◌, ◌%◌, ◌<◌, Bool, true, false, List, length, Some, MatchBool, replicate, sym, refl, ap, ◌∙◌, subst, ⊎_elim, arith}
-use Rattle.std.proofs.lemmas.Bool.{both_ways, cases_eq, cases_lt, and_from, and_right, lt-ltb}
+use Rattle.std.proofs.Common.{◌≡◌, ℕ, ◌+◌, ◌*◌, ◌/◌, ◌%◌, ◌<◌, Bool, true, false, not, ◌&&◌, ◌↔◌, eqb, ltb, List, length, Some, MatchBool, replicate, set, sym, refl, ap, ◌∙◌, subst, ⊎_elim, arith, get_or-set_other, get_or-set_same}
+use Rattle.std.proofs.lemmas.Bool.{both_ways, cases_eq, cases_lt, eq-eqb, ne_eqb, and_from, and_left, and_right, or_left, not_from_true, lt-ltb}
 use Rattle.std.proofs.lemmas.List.{get_or_past, get_or-replicate}
 use Rattle.sets.specs.declared.small.Set32.{Set32}
-use Rattle.sets.specs.Members.{Nobody, Least}
+use Rattle.sets.specs.Members.{Nobody, Joined, Parted, Least}
 use Rattle.sets.specs.Small.{holds}
 use Rattle.sets.specs.Parts.{part_at, in_parts, Marks, Fit}
+use Rattle.sets.proofs.Joining.{or_off}
 use Rattle.sets.proofs.Digits.{bits_zero, bits_above}
 use Rattle.sets.proofs.Words.{none_or_some}
 
@@ -65,3 +66,29 @@ each_part P s here past i =
     (λ l. subst P (sym (get_or-replicate 16 i s _ l)) here)
     (λ g. subst P (sym (get_or_past (replicate 16 s) i _ g)) past)
     (cases_lt i 16)
+
+-- One part is written: what holds of it and of the others holds of each.
+pub each_write : (P : ℕ → Set32 → Type 0) (parts : List Set32) (i : ℕ) (part : Set32) → i < length parts → P i part → ((j : ℕ) → (j ≡ i → ⊥) → P j (part_at parts j)) → (j : ℕ) → P j (part_at (set parts i part) j)
+each_write P parts i part l here others j =
+    ⊎_elim
+    (λ e. subst (λ k. P k (part_at (set parts i part) k)) (sym e) (subst (P i) (sym (get_or-set_same parts i part _ l)) here))
+    (λ ne. subst (P j) (sym (get_or-set_other parts i j part _ ne)) (others j ne))
+    (cases_eq j i)
+
+module _ (used marked : Set32) (parts : List Set32) (i : ℕ) (part : Set32) (l : i < length parts) (marks : Marks used parts) where
+  mark_write : ((holds marked i ≡ false) ↔ Nobody (holds part)) → ((j : ℕ) → (j ≡ i → ⊥) → holds marked j ≡ holds used j) → Marks marked (set parts i part)
+  mark_write here same =
+      each_write (λ j s. (holds marked j ≡ false) ↔ Nobody (holds s)) parts i part l here (λ j ne. subst (λ b. (b ≡ false) ↔ Nobody (holds (part_at parts j))) (sym (same j ne)) (marks j))
+
+  -- A part that has no member any more loses its mark.
+  pub marks-off : Nobody (holds part) → Parted (holds used) i (holds marked) → Marks marked (set parts i part)
+  marks-off none parted =
+      mark_write ((λ _. none), λ _. parted i ∙ and_left _ _ (not_from_true _ (eq-eqb i i refl))) (λ j ne. parted j ∙ ap (λ b. not b && holds used j) (ne_eqb j i ne))
+
+  -- A part with a member gets one.
+  pub marks_on : (p : ℕ) × holds part p ≡ true → i < 32 → Joined 32 (holds used) i (holds marked) → Marks marked (set parts i part)
+  marks_on some small joined =
+      mark_write ((λ off. absurd (both_ways _ off on)), λ none. absurd (both_ways _ (none some.0) some.1)) (λ j ne. joined j ∙ or_off _ _ (and_left (eqb j i) (ltb i 32) (ne_eqb j i ne)))
+    where
+      on : holds marked i ≡ true
+      on = joined i ∙ or_left _ _ (and_from (eqb i i) (ltb i 32) (eq-eqb i i refl) (lt-ltb i 32 small))
