@@ -22,13 +22,13 @@ same_deeper : (k c : ℕ) → deeper k ≡ deeper c → k ≡ c
 same_deeper k c e = cc
 
 wrong-deeper : {k c : ℕ} → wrong k ≡ deeper c → ⊥
-wrong-deeper e = let z : ◌≡◌ {A = ℕ} 0 1 = cc in omega arith
+wrong-deeper e = cc
 
 wrong-short : {k : ℕ} → wrong k ≡ short → ⊥
-wrong-short e = let z : ◌≡◌ {A = ℕ} 0 1 = cc in omega arith
+wrong-short e = cc
 
 deeper-short : {k : ℕ} → deeper k ≡ short → ⊥
-deeper-short e = let z : ◌≡◌ {A = ℕ} 0 1 = cc in omega arith
+deeper-short e = cc
 
 -- where words end, they are too few or a line
 end_refused : (st : State) (r : Refusal) → ending st ≡ refused r → short ≡ r
@@ -51,7 +51,7 @@ same_rest : (x y : Spot) (xs ys : List Spot) → x ∷ xs ≡ y ∷ ys → xs �
 same_rest x y xs ys e = cc
 
 no_words : (x : Spot) (xs : List Spot) → [] ≡ x ∷ xs → ⊥
-no_words x xs e = let z : ◌≡◌ {A = ℕ} 0 1 = cc in omega arith
+no_words x xs e = cc
 
 -- no front of some words, read from a state on, has more than m parentheses open
 abbrev Shallows : ℕ → State → List Spot → Type 0

@@ -9,7 +9,7 @@ use Rattle.grammar.proofs.ReadBack.{same_line, complete}
 use Rattle.grammar.proofs.Steps.{Led, Low, Fact, fact}
 
 pub not-read : {r : Refusal} {l : Line} → refused r ≡ read l → ⊥
-not-read e = let z : ◌≡◌ {A = ℕ} 0 1 = cc in omega arith
+not-read e = cc
 
 -- a line that ends in a state is spelled by the words that led there
 ends : (st : State) (us : List Spot) (l : Line) → Led st us → ending st ≡ read l → spell_line l ≡ us

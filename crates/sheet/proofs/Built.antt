@@ -1,5 +1,5 @@
 -- What two texts are read as is built from their lines, and fits the limits of a plan.
-use Rattle.std.proofs.Common.{◌≡◌, ℕ, ◌+◌, Bool, true, false, cond, ltb, List, [], ◌∷◌, ◌++◌, map, length, Some, None, Ok, Err, Option, Result, sym, refl, ap, ◌∙◌, subst, append_assoc, append-nil, arith}
+use Rattle.std.proofs.Common.{◌≡◌, ℕ, ◌+◌, Bool, true, false, cond, ltb, List, [], ◌∷◌, ◌++◌, map, length, Some, None, Ok, Err, Option, Result, sym, refl, ap, ◌∙◌, subst, append_assoc, append-nil}
 use Rattle.std.specs.List.{slice_get}
 use Rattle.std.proofs.lemmas.Bool.{and_from}
 use Rattle.words.specs.declared.Slip.{Slip}
@@ -18,9 +18,6 @@ use Rattle.sheet.specs.Reads.{limit}
 use Rattle.sheet.specs.Sheets.{lines_of, limited, checked, parsed, worded, line_read, onward, lines_read, longest, too_long, and_then, sheets_read, tree_read, tree_worded, tree_of, trees_of}
 use Rattle.sheet.proofs.Standing.{LineAt, Follow, lines_follow, read-stands}
 
-err_not_ok : {X E Y : Type 0} (f : E) (x : X) → Err f ≡ Ok x → Y
-err_not_ok f x e = let z : ◌≡◌ {A = ℕ} 0 1 = cc in absurd (omega arith)
-
 ok_same : {X E : Type 0} (x y : X) → ◌≡◌ {A = Result X E} (Ok x) (Ok y) → x ≡ y
 ok_same x y e = cc
 
@@ -29,22 +26,22 @@ ok_same x y e = cc
 -- what passes a test of its size has that size
 cond-few : (v : Bool) (d e : Items) (f : Found) → few d ≡ v → ◌≡◌ {A = Result Items Found} (cond v (Ok d) (Err f)) (Ok e) → (d ≡ e) × (few e ≡ true)
 cond-few true d e f is h = let same = ok_same d e h in (same, subst (λ x. few x ≡ true) same is)
-cond-few false d e f is h = err_not_ok f e h
+cond-few false d e f is h = cc
 
 limited-few : (d e : Items) → limited d ≡ Ok e → (d ≡ e) × (few e ≡ true)
 limited-few d e h = cond-few (few d) d e _ refl h
 
 -- a line that is read has nothing wrong, is a tree, and has words
 checked_none : (f : Option Found) (d e : Items) → checked f d ≡ Ok e → (f ≡ None) × (limited d ≡ Ok e)
-checked_none (Some f) d e h = err_not_ok f e h
+checked_none (Some f) d e h = cc
 checked_none None d e h = (refl, h)
 
 parsed-read : (ts : Texts) (t o n : ℕ) (d e : Items) (r : Outcome) → parsed ts t o n d r ≡ Ok e → (l : Line) × ((r ≡ read l) × (checked (line_fault ts d l) (line_makes ts t o l d) ≡ Ok e))
-parsed-read ts t o n d e (refused r) h = err_not_ok _ e h
+parsed-read ts t o n d e (refused r) h = cc
 parsed-read ts t o n d e (read l) h = (l, (refl, h))
 
 worded_ok : (ts : Texts) (t o n : ℕ) (d e : Items) (r : Result (List Spot) (Slip × ℕ)) → worded ts t o n d r ≡ Ok e → (ws : List Spot) × ((r ≡ Ok ws) × (parsed ts t o n d (parse_line limit ws) ≡ Ok e))
-worded_ok ts t o n d e (Err f) h = err_not_ok _ e h
+worded_ok ts t o n d e (Err f) h = cc
 worded_ok ts t o n d e (Ok ws) h = (ws, (refl, h))
 
 -- what is known of a line that is read: its words, its tree, and what it makes
@@ -94,7 +91,7 @@ line_builds ts t o text bytes us d e is at b h =
 
 onward_ok : (t k : ℕ) (r : Result Items Found) (go : Items → Result Items Fault) (e : Items) → onward t k r go ≡ Ok e → (m : Items) × ((r ≡ Ok m) × (go m ≡ Ok e))
 onward_ok t k (Ok m) go e h = (m, (refl, h))
-onward_ok t k (Err f) go e h = err_not_ok _ e h
+onward_ok t k (Err f) go e h = cc
 
 -- lines that are read are lines more
 lines_build : (ts : Texts) (t : ℕ) (text : List ℕ) → slice_get ts t ≡ Some text → (k o : ℕ) (ls : List (List ℕ)) → Follow text o ls → (us : List Line) (d e : Items) → Builds ts us d → lines_read ts t k o ls d ≡ Ok e → Builds ts (us ++ map tree_of ls) e
@@ -111,12 +108,12 @@ lines_build ts t text is k o (l ∷ ls) at us d e b h =
 
 -- texts that are read are not too long
 cond_ok : (v : Bool) (f : Fault) (r : Result Items Fault) (d : Items) → ◌≡◌ {A = Result Items Fault} (cond v (Err f) r) (Ok d) → r ≡ Ok d
-cond_ok true f r d h = err_not_ok f d h
+cond_ok true f r d h = cc
 cond_ok false f r d h = h
 
 then_ok : (r : Result Items Fault) (go : Items → Result Items Fault) (e : Items) → and_then r go ≡ Ok e → (m : Items) × ((r ≡ Ok m) × (go m ≡ Ok e))
 then_ok (Ok m) go e h = (m, (refl, h))
-then_ok (Err f) go e h = err_not_ok f e h
+then_ok (Err f) go e h = cc
 
 -- the chip text's lines, then the project text's
 sheets_build : (chip project : List ℕ) (d : Items) → sheets_read chip project ≡ Ok d → Builds (chip ∷ project ∷ []) (trees_of chip project) d

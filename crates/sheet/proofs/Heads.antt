@@ -1,5 +1,5 @@
 -- A constraint as a whole against the reading of the whole line.
-use Rattle.std.proofs.Common.{◌≡◌, ℕ, Bool, true, false, not, ◌<◌, List, [], ◌∷◌, length, Some, None, Ok, Err, Option, Result, sym, refl, ap, ◌∙◌, arith}
+use Rattle.std.proofs.Common.{◌≡◌, ℕ, Bool, true, false, not, ◌<◌, List, [], ◌∷◌, length, Some, None, Ok, Err, Option, Result, refl, ap, ◌∙◌, arith}
 use Rattle.words.specs.declared.Keyword.{Keyword}
 use Rattle.words.specs.declared.Keyword.TheVariants.{Cell, Premise, In, To, Align, Apart}
 use Rattle.words.specs.declared.Placed.{Placed}
@@ -14,9 +14,6 @@ use Rattle.sheet.specs.Progress.{Progress}
 use Rattle.sheet.specs.Reads.{limit, spots, marks, begins}
 use Rattle.sheet.specs.Forms.{FormTells, BoundTells, BodyTells, Plain, declares}
 use Rattle.sheet.proofs.Steps.{says}
-
-never : true ≡ false → ⊥
-never e = cc
 
 -- a reserved word comes second, after a name
 abbrev pub is_reserved : Word → Bool
@@ -44,8 +41,8 @@ headed (w ∷ ws) = headed_by w.word ws
 heading_is : (o : Option Owner) (n : Name) (c : ℕ) (w : Word) (ws : List Spot) → (o ≡ None → marks Colon w ≡ false) → is_reserved w ≡ false → heading o n c w ≡ had o None (one (named n)) [] c w
 heading_is o n c (name b) ws colon key = refl
 heading_is o n c (number k) ws colon key = refl
-heading_is o n c (reserved k) ws colon key = absurd (never key)
-heading_is None n c (symbol Colon) ws colon key = absurd (never (colon refl))
+heading_is o n c (reserved k) ws colon key = cc
+heading_is None n c (symbol Colon) ws colon key = let clash = colon refl in cc
 heading_is (Some p) n c (symbol Colon) ws colon key = refl
 heading_is o n c (symbol Plus) ws colon key = refl
 heading_is o n c (symbol Open) ws colon key = refl
@@ -58,15 +55,15 @@ head-have o n [] colon key = refl
 head-have o n (w ∷ ws) colon key = ap (λ s. went s (λ st. parse limit st ws)) (heading_is o n w.column w.word ws colon key)
 
 no_declaration : (k : Keyword) (c : ℕ) → not (declares k) ≡ true → declaring None c k ≡ off (wrong c)
-no_declaration Cell c h = absurd (never (sym h))
-no_declaration Premise c h = absurd (never (sym h))
+no_declaration Cell c h = cc
+no_declaration Premise c h = cc
 no_declaration In c h = refl
 no_declaration To c h = refl
 no_declaration Align c h = refl
 no_declaration Apart c h = refl
 
 not-true : (b : Bool) → not b ≡ true → b ≡ false
-not-true true h = absurd (never (sym h))
+not-true true h = cc
 not-true false h = refl
 
 none_some : {A : Type 0} (x : A) → Some x ≡ None → ⊥
@@ -82,7 +79,7 @@ word-need o c (symbol s) ws free key = refl
 
 -- words that begin with no name and reserved word are read as two expressions
 as_need : (o : Option Owner) (ws : List Spot) → Plain o ws → headed ws ≡ false → parse limit (body o) ws ≡ parse limit (need o None None []) ws
-as_need None [] free key = absurd (never (sym free))
+as_need None [] free key = cc
 as_need (Some o) [] free key = refl
 as_need o (w ∷ ws) free key = word-need o w.column w.word ws (plain_eta o w ws free) key
   where

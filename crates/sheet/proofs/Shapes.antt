@@ -97,8 +97,8 @@ names_two a b p m u mid end =
 
 -- a power or a rest outside its range
 not_some : (a : Option Found) (f : Found) → first a (Some f) ≡ None → ⊥
-not_some None f e = let z : ◌≡◌ {A = ℕ} 0 1 = cc in omega arith
-not_some (Some g) f e = let z : ◌≡◌ {A = ℕ} 0 1 = cc in omega arith
+not_some None f e = cc
+not_some (Some g) f e = cc
 
 pub range_noted : (q : Option ℕ) (n : Name) (c : ℕ) (k r : Number) (p m e : Progress) (i : ℕ) → m ≡ after_name n p → e ≡ further m (found_at Range i) → range_fault k r ≡ found_at Range i → Leaves q (aligned n c k r) p e
 range_noted q n c k r p m e i mid end wide =

@@ -31,7 +31,7 @@ pub not_both : (k : ℕ) → eqb k 1 ≡ true → between 2 2 k ≡ false
 not_both k e = grind (arith, nat_tests)
 
 pub contrary : false ≡ true → ⊥
-contrary e = let z : ◌≡◌ {A = ℕ} 0 1 = cc in omega arith
+contrary e = cc
 
 most : (v : Bool) (x y : ℕ) → x ≤ 5 → y ≤ 5 → cond v x y ≤ 5
 most true x y h k = h
@@ -60,12 +60,12 @@ unfolding class_of
 none_letter = refl
 
 fifth : (a b c d e : Bool) → eqb (cond a 1 (cond b 2 (cond c 3 (cond d 4 (cond e 5 0))))) 5 ≡ true → e ≡ true
-fifth true b c d e h = absurd (contrary h)
-fifth false true c d e h = absurd (contrary h)
-fifth false false true d e h = absurd (contrary h)
-fifth false false false true e h = absurd (contrary h)
+fifth true b c d e h = cc
+fifth false true c d e h = cc
+fifth false false true d e h = cc
+fifth false false false true e h = cc
 fifth false false false false true h = refl
-fifth false false false false false h = absurd (contrary h)
+fifth false false false false false h = cc
 
 pub marked : (b : ℕ) → is_class 5 b ≡ true → mark b ≡ true
 unfolding class_of
@@ -76,7 +76,7 @@ gap_class k e = grind (arith, nat_tests)
 
 pub or_left : (a b : Bool) → a ≡ true → (a || b) ≡ true
 or_left true b e = refl
-or_left false b e = absurd (contrary e)
+or_left false b e = cc
 
 pub or_right : (a b : Bool) → b ≡ true → (a || b) ≡ true
 or_right true b e = refl

@@ -1,15 +1,10 @@
 -- Longest fronts, and decimal numbers read from the left.
-use Rattle.std.proofs.Common.{◌≡◌, ℕ, zero, suc, ◌+◌, ◌-◌, ◌*◌, ◌<◌, ◌≤◌, Bool, true, false, cond, leb, ltb, List, [], ◌∷◌, ◌++◌, length, get_or, take, drop, Some, None, Option, sym, refl, ap, ◌∙◌, subst, le_trans, le_refl, add-one, one-add, arith, drop-cons, le-ltb}
+use Rattle.std.proofs.Common.{◌≡◌, ℕ, zero, suc, ◌+◌, ◌-◌, ◌*◌, ◌<◌, ◌≤◌, Bool, true, false, cond, leb, List, [], ◌∷◌, ◌++◌, length, get_or, drop, None, sym, refl, ◌∙◌, subst, le_trans, le_refl, add-one, one-add, arith, drop-cons}
 use Rattle.std.proofs.lemmas.Bool.{lt-leb}
-use Rattle.std.proofs.lemmas.Bool.Decides.{nat_tests}
-use Rattle.std.proofs.lemmas.List.Folds.{length-prefix_len}
-use Rattle.words.specs.Class.{is_class}
 use Rattle.std.specs.List.{AllPass, take_while, prefix_len}
 use Rattle.std.proofs.lemmas.List.Elements.{All-nil, All-cons, All-head, All-tail}
 use Rattle.std.proofs.lemmas.List.Sums.{take_while-cons}
-use Rattle.words.specs.declared.Keyword.{Keyword}
-use Rattle.words.specs.Keywords.{keyword_of}
-use Rattle.words.specs.Words.{solid, number, number_at, decimal_after, decimal, top, up_to, longest, or_name, name_at, word}
+use Rattle.words.specs.Words.{decimal_after, decimal, top, up_to}
 
 pub decimal_step : (v : ℕ) (s : List ℕ) (n : ℕ) → n < length s → decimal_after v (drop n s) ≡ decimal_after (v * 10 + (get_or s n 0 - 48)) (drop (n + 1) s)
 decimal_step v s n h = rw (add-one, drop-cons s n 0)
@@ -31,21 +26,6 @@ too_large v s n h is large =
     let above : top < decimal s = omega (arith, large, decimal_ge next (drop (n + 1) s), decimal_step v s n h, is) in
     let no : leb (decimal s) top ≡ false = lt-leb (decimal s) top above in
     rw no refl
-
--- digits that are not too many, with no letter after them, are a number
-pub short_number : (s : List ℕ) (n v : ℕ) → n ≡ prefix_len (solid 2) s → Some v ≡ up_to (decimal (take n s)) → is_class 1 (get_or s n 0) ≡ false → word n (number v) ≡ number_at (take_while (solid 2) s) s
-short_number s n v is value free =
-    let w = take_while (solid 2) s in
-    let len : n ≡ length w = is ∙ sym (length-prefix_len (solid 2) s) in
-    let known : Some v ≡ up_to (decimal w) = value ∙ ap (λ k. up_to (decimal (take k s))) is in
-    let alone : is_class 1 (get_or s (length w) 0) ≡ false = ap (λ k. is_class 1 (get_or s k 0)) (sym len) ∙ free in
-    grind (arith, nat_tests)
-
--- a front that is not too long is the reserved word that it spells, or else the name
-pub short-name : {p w : List ℕ} {n : ℕ} (k : Option Keyword) → p ≡ w → n ≡ length w → n ≤ longest → k ≡ keyword_of p → word n (or_name k p) ≡ name_at w
-short-name {p} {w} {n} k is len le key =
-    let fits : ltb longest (length w) ≡ false = le-ltb longest (length w) (omega arith) in
-    rw (fits, key, is, len) refl
 
 -- each byte of the longest front passes
 pub front_all : (p : ℕ → Bool) (s : List ℕ) → AllPass p (take_while p s)

@@ -67,9 +67,6 @@ Lies line i ws = AllByRecursion (Stands line) ws × Rising i ws
 same_words : (us ws : List Spot) → ◌≡◌ {A = Result (List Spot) (Slip × ℕ)} (Ok us) (Ok ws) → us ≡ ws
 same_words us ws e = cc
 
-never : (f : Slip × ℕ) (ws : List Spot) → ◌≡◌ {A = Result (List Spot) (Slip × ℕ)} (Err f) (Ok ws) → ⊥
-never f ws e = let z : ◌≡◌ {A = ℕ} 0 1 = cc in omega arith
-
 lies : (line : List ℕ) (s : List ℕ) (k i : ℕ) (ws : List Spot) → s ≡ drop i line → words_from k (i + 1) s ≡ Ok ws → Lies line i ws
 lies line [] k i ws is e = subst (Lies line i) (same_words [] ws e) (tt, tt)
 lies line (b ∷ s) (suc k) i ws is e =
@@ -88,12 +85,12 @@ lies line (b ∷ s) zero i ws is e =
         let r = ih vs refl in
         let here : Stands line (record { column = i + 1; word = w }) = record { after_start = omega arith; before_end = omega (arith, wide); spelled = placed line i w h } in
         subst (Lies line i) (same_words _ ws e) ((here, r.0), (omega arith, r.1))
-    put w h (Err f) ih e = absurd (never f ws e)
+    put w h (Err f) ih e = cc
 
     go : (t : Start) → Spelled t (drop i line) → ((j : ℕ) (vs : List Spot) → words_from j (i + 1 + 1) s ≡ Ok vs → Lies line (i + 1) vs) → onward (i + 1) t (λ skip. words_from skip (i + 1 + 1) s) ≡ Ok ws → Lies line i ws
     go gap h ih e = let r = ih 0 ws e in (r.0, lower i (i + 1) ws (omega arith) r.1)
     go (word n w) h ih e = put w h (words_from (n - 1) (i + 1 + 1) s) (ih (n - 1)) e
-    go (bad n f) h ih e = absurd (never _ ws e)
+    go (bad n f) h ih e = cc
 
 pub words_stand : WordsStand
 words_stand line ws e = All-from_recursion (Stands line) ws (lies line line 0 0 ws refl e).0

@@ -107,7 +107,7 @@ reads_word c w (x ∷ bytes) s some e =
     ∙ ap (before (record { column = c; word = w })) (skipped (length bytes) (c + 1) (bytes ++ s) ∙ rw (drop-append_seam bytes s, far) refl)
 
 pub reads_fault : (c : ℕ) (s : List ℕ) (f : Slip) (n : ℕ) → front_of s ≡ bad n f → words_from 0 c s ≡ Err (f, c + n)
-reads_fault c [] f n e = absurd (let z : ◌≡◌ {A = ℕ} 0 1 = cc in omega arith)
+reads_fault c [] f n e = cc
 reads_fault c (b ∷ s) f n e = ap (λ t. onward c t (λ skip. words_from skip (c + 1) s)) e
 
 some_bytes : (w : Word) (bytes : List ℕ) → Written w bytes → 0 < length bytes
