@@ -3,7 +3,7 @@ use Rattle.std.proofs.Common.{◌≡◌, ◌⊎◌, inl, inr, ℕ, ◌<◌, leng
 use mathlib.Core.Path.{fun_ext}
 use Rattle.std.proofs.Math.Bool.{or-false, or_assoc}
 use Rattle.statements.specs.Numbers.{top, bottom}
-use Rattle.statements.specs.Search.{LeastFrom, GreatestTo, or_else}
+use Rattle.statements.specs.Search.{LeastFrom, GreatestTo}
 use Rattle.statements.specs.Statements.{allowed}
 use Rattle.statements.specs.declared.statement.Statement.{Statement}
 use Rattle.statements.specs.declared.statement.Statement.TheVariants.{Between}
@@ -31,17 +31,13 @@ module _ (lo hi : ℕ → ℤ) where
 
 -- ---- the least number of a statement from one up, and the greatest from one down
 
-or_else-unwrap_or : (d : ℤ) (o : Option ℤ) → unwrap_or o d ≡ or_else d o
-or_else-unwrap_or d None = refl
-or_else-unwrap_or d (Some v) = refl
-
 pub up-unwrap_or : (s : Statement) (n : ℤ) (o : Option ℤ) → LeastFrom (allowed s) n o → unwrap_or o (top +ℤ pos 1) ≡ up s n
 unfolding up
-up-unwrap_or s n o h = or_else-unwrap_or (top +ℤ pos 1) o ∙ ap (or_else (top +ℤ pos 1)) (least_from_is (allowed s) (allowed_within s) n o h)
+up-unwrap_or s n o h = ap (λ r. unwrap_or r (top +ℤ pos 1)) (least_from_is (allowed s) (allowed_within s) n o h)
 
 pub down-unwrap_or : (s : Statement) (n : ℤ) (o : Option ℤ) → GreatestTo (allowed s) n o → unwrap_or o (bottom -ℤ pos 1) ≡ down s n
 unfolding down
-down-unwrap_or s n o h = or_else-unwrap_or (bottom -ℤ pos 1) o ∙ ap (or_else (bottom -ℤ pos 1)) (greatest_to_is (allowed s) (allowed_within s) n o h)
+down-unwrap_or s n o h = ap (λ r. unwrap_or r (bottom -ℤ pos 1)) (greatest_to_is (allowed s) (allowed_within s) n o h)
 
 -- ---- the reasons of some cells
 

@@ -1,7 +1,8 @@
 -- The tells that a form makes, the cells that a tell reads, and what it says where those cells lie between given ends.
 use Rattle.std.specs.Prelude.{ℕ, Bool, true, List, [], ◌∷◌, ◌++◌, ℤ, pos, ◌+ℤ◌, ◌-ℤ◌, Some, None, Option, int_lt}
+use Rattle.std.specs.Option.{unwrap_or}
 use Rattle.statements.specs.Numbers.{top, bottom, InU}
-use Rattle.statements.specs.Search.{least_from, greatest_to, or_else}
+use Rattle.statements.specs.Search.{least_from, greatest_to}
 use Rattle.statements.specs.Statements.{allowed}
 use Rattle.statements.specs.declared.statement.Statement.{Statement}
 use Rattle.statements.specs.declared.statement.Statement.TheVariants.{Between}
@@ -55,11 +56,11 @@ reads t = condition_reads t.condition ++ saying_reads t.saying
 
 -- The least number of a statement from n up, M + 1 where there is none.
 unfoldable pub up : Statement → ℤ → ℤ
-up s n = or_else (top +ℤ pos 1) (least_from (allowed s) n)
+up s n = unwrap_or (least_from (allowed s) n) (top +ℤ pos 1)
 
 -- The greatest number of a statement from n down, -M - 1 where there is none.
 unfoldable pub down : Statement → ℤ → ℤ
-down s n = or_else (bottom -ℤ pos 1) (greatest_to (allowed s) n)
+down s n = unwrap_or (greatest_to (allowed s) n) (bottom -ℤ pos 1)
 
 -- Does the condition hold where each cell x lies from lo x to hi x?
 abbrev pub holds : (lo hi : ℕ → ℤ) → Condition → Bool

@@ -36,10 +36,6 @@ least_from a n = seek_up a (count ((top +ℤ pos 1) -ℤ raised n)) (raised n)
 unfoldable pub greatest_to : (ℤ → Bool) → ℤ → Option ℤ
 greatest_to a n = seek_down a (count (lowered n -ℤ (bottom -ℤ pos 1))) (lowered n)
 
--- What is there, else d.
-abbrev pub or_else : ℤ → Option ℤ → ℤ
-or_else d o = unwrap_or o d
-
 -- The lowest number of U that `a` allows, M where it allows none.
 unfoldable pub lowest : (ℤ → Bool) → ℤ
 lowest a = unwrap_or (least_from a bottom) top
