@@ -1,5 +1,5 @@
 -- When a constraint names only cells and premises that there are, with its numbers in their ranges.
-use Rattle.std.specs.Prelude.{ℕ, Bool, true, ◌&&◌, List, Some, None, Option, nat_lt}
+use Rattle.std.specs.Prelude.{ℕ, Bool, true, ◌&&◌, List, [], ◌∷◌, Some, None, Option, nat_lt}
 use Rattle.std.specs.List.{list_all}
 use Rattle.statements.specs.Numbers.{top, bottom, inside}
 use Rattle.plan.specs.declared.constraint.Constraint.{Constraint}
@@ -9,7 +9,8 @@ use Rattle.plan.specs.Forms.{named}
 
 -- each number of the list is below n
 abbrev pub all_below : ℕ → List ℕ → Bool
-all_below n cs = list_all (λ c. nat_lt c n) cs
+all_below n [] = true
+all_below n (c ∷ cs) = nat_lt c n && all_below n cs
 
 -- there is such a premise, of m
 abbrev pub owner_known : ℕ → Option ℕ → Bool
