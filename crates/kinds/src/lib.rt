@@ -32,13 +32,11 @@ mod tests {
     #[test]
     fn aligns_merge(rt: HostRuntime) {
         let f = Align(Some(Residue { k: 3, r: 0 }));
-        assert!(rt; f.merge(Align(Some(Residue { k: 2, r: 0 }))).same(f));
-        assert!(rt;
-            allows_none(Align(Some(Residue { k: 3, r: 4 })).merge(Align(Some(Residue {
-                k: 2,
-                r: 2,
-            }))))
-        );
+        let g = Align(Some(Residue { k: 2, r: 0 }));
+        assert!(rt; f.merge(g).same(f));
+        let f = Align(Some(Residue { k: 3, r: 4 }));
+        let g = Align(Some(Residue { k: 2, r: 2 }));
+        assert!(rt; allows_none(f.merge(g)));
     }
 
     #[test]

@@ -11,6 +11,7 @@ impl Residue {
     pub fn new(k: u32, r: u32) -> Option<Residue>
         ensures { Made k r result }
     {
+        // No `then`: its closure would have to require the test again, as what it makes may not be without it.
         if k <= 24 && r < 1 << k {
             Some(Residue { k, r })
         } else {
