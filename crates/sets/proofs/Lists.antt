@@ -1,5 +1,5 @@
 -- The elements of a list as a set, and the members of a set as a list.
-use Rattle.std.proofs.Common.{◌≡◌, ℕ, zero, suc, ◌+◌, ◌<◌, ◌≤◌, Bool, true, false, cond, ◌&&◌, ◌||◌, eqb, ltb, List, [], ◌∷◌, ◌++◌, length, get_or, sym, refl, ap, ◌∙◌, ⊎_elim, append-nil, add-one, arith, length-append}
+use Rattle.std.proofs.Common.{◌≡◌, ℕ, zero, suc, ◌+◌, ◌<◌, Bool, true, false, cond, ◌&&◌, ◌||◌, eqb, ltb, List, [], ◌∷◌, ◌++◌, length, get_or, sym, refl, ap, ◌∙◌, ⊎_elim, append-nil, add-one, arith}
 use mathlib.Core.Bool.{and-true, and-false, or-false}
 use Rattle.std.proofs.lemmas.Bool.{cases_eq, cases_lt, eq-eqb, ne_eqb, lt-ltb, le-ltb, or_left, or_right}
 use Rattle.sets.specs.Members.{Members, among, listed}
@@ -57,13 +57,3 @@ among-listed j s (suc n) =
 
     other : (j ≡ n → ⊥) → ltb j n ≡ ltb j (suc n)
     other ne = ⊎_elim (λ l. lt-ltb j n l ∙ sym (lt-ltb j (suc n) (omega arith))) (λ g. le-ltb j n g ∙ sym (le-ltb j (suc n) (omega (arith, ne)))) (cases_lt j n)
-
--- No more numbers are listed than there are.
-pub length-listed : (s : Members) (n : ℕ) → length (listed s n) ≤ n
-unfolding listed
-length-listed s zero = omega arith
-length-listed s (suc n) = omega (arith, length-append (listed s n) (cond (s n) (n ∷ []) []), length-listed s n, at_most (s n))
-  where
-    at_most : (b : Bool) → length (cond b (n ∷ []) []) ≤ 1
-    at_most true = omega arith
-    at_most false = omega arith

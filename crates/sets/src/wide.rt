@@ -1,7 +1,5 @@
 // Sets of numbers below 512, in sixteen parts of 32 numbers each.
-ghost use Rattle.std.specs.Prelude.{◌≡◌, ℕ, ◌<◌, true, MatchBool, slice_set};
-ghost use Rattle.sets.specs.Members.{Nobody, Joined, Parted, Least};
-ghost use Rattle.sets.specs.Parts.{in_parts, Marks, Fit};
+ghost use Rattle.sets.specs.Parts.{Marks, Fit};
 
 use crate::small::Set32;
 
@@ -16,9 +14,13 @@ pub struct Set512 {
 }
 
 impl Set512 {
+    ghost use Rattle.std.specs.Prelude.{◌≡◌, ℕ, ◌<◌, true, MatchBool, slice_set};
+    ghost use Rattle.sets.specs.Members.{Nobody, Joined, Parted, Least};
+    ghost use Rattle.sets.specs.Wide.{holds_wide};
+
     /// The set without a member.
     pub fn none() -> Set512
-        ensures { Nobody (in_parts result.parts) }
+        ensures { Nobody (holds_wide result) }
     {
         Set512 {
             parts: [Set32::none(); 16],
@@ -41,14 +43,14 @@ impl Set512 {
 
     /// Whether `n` is a member; no number from 512 on is.
     pub fn has(&self, n: usize) -> bool
-        ensures { result ≡ in_parts self.now.parts n }
+        ensures { result ≡ holds_wide self.now n }
     {
         n < 512 && self.parts[n / 32].has((n % 32) as u32)
     }
 
     /// Adds `n`; from 512 on it changes nothing.
     pub fn insert(&mut self, n: usize)
-        ensures { Joined 512 (in_parts self.old.parts) n (in_parts self.new.parts) }
+        ensures { Joined 512 (holds_wide self.old) n (holds_wide self.new) }
     {
         if n < 512 {
             self.write(n / 32, self.parts[n / 32].insert((n % 32) as u32));
@@ -57,7 +59,7 @@ impl Set512 {
 
     /// Removes `n`; from 512 on it changes nothing, as there is no such member.
     pub fn remove(&mut self, n: usize)
-        ensures { Parted (in_parts self.old.parts) n (in_parts self.new.parts) }
+        ensures { Parted (holds_wide self.old) n (holds_wide self.new) }
     {
         if n < 512 {
             self.write(n / 32, self.parts[n / 32].remove((n % 32) as u32));
@@ -66,14 +68,14 @@ impl Set512 {
 
     /// Whether there is no member.
     pub fn is_empty(&self) -> bool
-        ensures { MatchBool result (Nobody (in_parts self.now.parts)) ((k : ℕ) × in_parts self.now.parts k ≡ true) }
+        ensures { MatchBool result (Nobody (holds_wide self.now)) ((k : ℕ) × holds_wide self.now k ≡ true) }
     {
         self.used.is_empty()
     }
 
     /// The least member, absent exactly without one.
     pub fn lowest(&self) -> Option<usize>
-        ensures { Least (in_parts self.now.parts) result }
+        ensures { Least (holds_wide self.now) result }
     {
         let i = self.used.lowest()? as usize;
         let place = self.parts[i].lowest()? as usize;
