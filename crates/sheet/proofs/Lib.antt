@@ -7,4 +7,3 @@ pub mod Bounds
 pub mod Heads
 pub mod Lines
 pub mod Texts
-pub mod Ends

@@ -1,5 +1,13 @@
 -- Lines and texts against what they are read as.
-use Rattle.std.proofs.Common.{◌≡◌, ℕ, ◌+◌, ◌<◌, ◌≤◌, true, false, ltb, List, [], ◌∷◌, map, length, Some, None, Ok, Err, Option, Result, sym, refl, ap, ◌∙◌, subst, arith, le-ltb, lt-ltb, Bor}
+use Rattle.std.proofs.Common.{◌≡◌, ℕ, ◌+◌, ◌<◌, ◌≤◌, ◌==◌, Bool, true, false, ltb, List, [], ◌∷◌, map, length, Some, None, Ok, Err, Option, Result, sym, refl, ap, ◌∙◌, subst, arith, le-ltb, lt-ltb, Bor}
+use Rattle.std.specs.Iterator.{AlwaysYields}
+use Rattle.std.specs.Iterator.Adapters.{enumerate_steps, enumerate_source}
+use Rattle.std.specs.declared.iter.Enumerate.{Enumerate}
+use Rattle.std.specs.declared.slice.Split.{Split}
+use Rattle.std.specs.Fn.{CalledAt}
+use Rattle.std.specs.Slice.Iter.{split_steps, split_rest, split_done, split_callee}
+use Rattle.std.proofs.lemmas.Iterator.Splits.{YieldsList-from_slice_split}
+use denote.Param.Members.{Mut}
 use Rattle.std.specs.List.{All, AllByRecursion}
 use Rattle.std.proofs.lemmas.List.Elements.{All-from_recursion, recursion_from_All}
 use Rattle.words.specs.declared.Placed.{Placed}
@@ -25,7 +33,8 @@ use Rattle.sheet.specs.Progress.{Progress}
 use Rattle.sheet.specs.Reads.{limit, spots, Ends}
 use Rattle.sheet.specs.Forms.{Near, LineTells}
 use Rattle.sheet.specs.Sheets.{checked, limited, parsed, worded, line_read, lines_read, lines_of, onward, longest, too_long, and_then, sheets_read}
-use Rattle.sheet.specs.Answers.{unworded, stopped, fault_at, Ended, Fine, LineReads, lines_in, left, TextReads, BothRead}
+use Rattle.sheet.specs.Answers.{unworded, stopped, fault_at, Ended, Fine, LineReads, TextReads, BothRead}
+use Rattle.sheet.proofs.Standing.{LineAt, Follow, lines_follow}
 
 -- the words of a line of at most 32768 bytes have columns as small
 pub words-near : (line : List ℕ) (ws : List Placed) → length line ≤ 32768 → words_of line ≡ Ok (map spot ws) → Near ws
@@ -78,44 +87,100 @@ line_ended a s p e bytes ws u fresh is tells end =
 
 -- ---- the lines of a text
 
--- the lines before line k, at offset o, are read
-pub record Upto (t : ℕ) (p : Progress) (text : List ℕ) (rest : Option (Bor (List ℕ))) (k o : ℕ) (e : Progress) : Type 0 where
-  pub fine : Fine p e
-  pub line_small : k ≤ o + 1
-  pub inside : o + left rest ≡ length text + 1
-  pub reads : lines_read p.texts t 1 0 (lines_of text) p.items ≡ lines_read p.texts t k o (lines_in rest) e.items
+module _ {S : Type 0} (gives : S → Option (ℕ × Bor (List ℕ)) → S → Type 0) where
+  -- the lines that are still to come
+  abbrev pub Comes : S → List (List ℕ) → Type 0
+  Comes s ls = AlwaysYields gives (λ x. x.1.now) s ls
 
-module _ {t : ℕ} {p : Progress} {text : List ℕ} {b : Bor (List ℕ)} {k o : ℕ} {e : Progress} (u : Upto t p text (Some b) k o e) (f : List ℕ) (m : Option (Bor (List ℕ))) (cut : lines_of b.now ≡ f ∷ lines_in m) where
-  abbrev start : Start
-  start = record { text = t; offset = o }
+  -- the lines before the one at an offset are read
+  pub record Upto (t : ℕ) (p : Progress) (text : List ℕ) (s : S) (i o : ℕ) (e : Progress) : Type 0 where
+    pub rest : List (List ℕ)
+    pub comes : Comes s rest
+    pub fine : Fine p e
+    pub small : i ≤ o
+    pub follow : Follow text o rest
+    pub reads : lines_read p.texts t 1 0 (lines_of text) p.items ≡ lines_read p.texts t (i + 1) o rest e.items
 
-  first_read : lines_read p.texts t 1 0 (lines_of text) p.items ≡ onward t k (line_read e.texts t o e.items f) (λ d. lines_read p.texts t (k + 1) (o + length f + 1) (lines_in m) d)
+  -- the next line is the first of those to come
+  pub record Next (t : ℕ) (p : Progress) (text : List ℕ) (s : S) (i o : ℕ) (e : Progress) (f : List ℕ) : Type 0 where
+    pub others : List (List ℕ)
+    pub comes : Comes s others
+    pub line_at : LineAt text o f
+    pub follow : Follow text (o + length f + 1) others
+    pub reads : lines_read p.texts t 1 0 (lines_of text) p.items ≡ onward t (i + 1) (line_read e.texts t o e.items f) (λ d. lines_read p.texts t (i + 1 + 1) (o + length f + 1) others d)
+
+  pub upto_next : {t : ℕ} {p : Progress} {text : List ℕ} {s : S} {i o : ℕ} {e : Progress} → Upto t p text s i o e → (n : ℕ) (b : Bor (List ℕ)) (u : S) → gives s (Some (n, b)) u → Next t p text u i o e b.now
   unfolding lines_read
-  first_read =
-      u.reads ∙ ap (λ ls. lines_read p.texts t k o ls e.items) cut
-      ∙ ap (λ ts. onward t k (line_read ts t o e.items f) (λ d. lines_read p.texts t (k + 1) (o + length f + 1) (lines_in m) d)) (sym u.fine.texts)
+  upto_next {t} {p} {text} {s} {i} {o} {e} h n b u step = go h.rest h.comes h.follow h.reads
+    where
+      go : (ls : List (List ℕ)) → Comes s ls → Follow text o ls → lines_read p.texts t 1 0 (lines_of text) p.items ≡ lines_read p.texts t (i + 1) o ls e.items → Next t p text u i o e b.now
+      go [] comes follow reads = absurd (comes (n, b) u step)
+      go (l ∷ ls) comes follow reads =
+          let next = comes.1 (n, b) u step in
+          let same = sym next.0 in
+          record {
+            others = ls;
+            comes = next.1;
+            line_at = subst (LineAt text o) same follow.0;
+            follow = subst (λ f. Follow text (o + length f + 1) ls) same follow.1;
+            reads = reads ∙ (λ k. onward t (i + 1) (line_read (sym h.fine.texts k) t o e.items (same k)) (λ d. lines_read p.texts t (i + 1 + 1) (o + length (same k) + 1) ls d));
+          }
 
-  pub upto_more : (v : Unit {0}) (r : Progress) → length f + left m ≡ length b.now → LineReads (Ok v) start e f r → Upto t p text m (k + 1) (o + (length f + 1)) r
-  upto_more v r size line =
-      let next : o + length f + 1 ≡ o + (length f + 1) = omega arith in
+  module _ {t : ℕ} {p : Progress} {text : List ℕ} {u : S} {i o : ℕ} {e : Progress} {f : List ℕ} (n : Next t p text u i o e f) where
+    abbrev start : Start
+    start = record { text = t; offset = o }
+
+    pub upto_more : (v : Unit {0}) (r : Progress) (j : ℕ) → j ≡ i + 1 → i ≤ o → Fine p e → LineReads (Ok v) start e f r → Upto t p text u j (o + (length f + 1)) r
+    upto_more v r j later small fine line =
+        let next : o + length f + 1 ≡ o + (length f + 1) = omega arith in
+        record {
+          rest = n.others;
+          comes = n.comes;
+          fine = record { texts = line.1.texts ∙ fine.texts; found = line.1.found };
+          small = omega arith;
+          follow = subst (λ k. Follow text k n.others) next n.follow;
+          reads = n.reads ∙ ap (λ x. onward t (i + 1) x (λ d. lines_read p.texts t (i + 1 + 1) (o + length f + 1) n.others d)) line.0
+              ∙ (λ k. lines_read p.texts t (sym later k + 1) (next k) n.others r.items);
+        }
+
+    pub upto_stop : (x : Trouble) (r : Progress) (j : ℕ) → j ≡ i → LineReads (Err x) start e f r → TextReads (Err (fault_at t (j + 1) x)) t p text r
+    upto_stop trouble.Memory r j same line = tt
+    upto_stop (trouble.Found g) r j same line =
+        n.reads ∙ ap (λ x. onward t (i + 1) x (λ d. lines_read p.texts t (i + 1 + 1) (o + length f + 1) n.others d)) line
+        ∙ ap (λ k. Err (record { problem = g.problem; text = t; line = k + 1; column = g.column })) (sym same)
+
+  pub upto_none : (t : ℕ) (p : Progress) (text : List ℕ) (s : S) (i : ℕ) → Comes s (lines_of text) → i ≡ 0 → p.found ≡ None → Upto t p text s i 0 p
+  upto_none t p text s i comes first fresh =
       record {
-        fine = record { texts = line.1.texts ∙ u.fine.texts; found = line.1.found };
-        line_small = omega (arith, u.line_small);
-        inside = omega (arith, u.inside, size);
-        reads = first_read ∙ ap (λ x. onward t k x (λ d. lines_read p.texts t (k + 1) (o + length f + 1) (lines_in m) d)) line.0
-            ∙ ap (λ n. lines_read p.texts t (k + 1) n (lines_in m) r.items) next;
+        rest = lines_of text;
+        comes = comes;
+        fine = record { texts = refl; found = fresh };
+        small = omega arith;
+        follow = lines_follow text;
+        reads = ap (λ k. lines_read p.texts t (k + 1) 0 (lines_of text) p.items) (sym first);
       }
 
-  pub upto_stop : (x : Trouble) (r : Progress) → LineReads (Err x) start e f r → TextReads (Err (fault_at t k x)) t p text r
-  upto_stop trouble.Memory r line = tt
-  upto_stop (trouble.Found g) r line = first_read ∙ ap (λ x. onward t k x (λ d. lines_read p.texts t (k + 1) (o + length f + 1) (lines_in m) d)) line
+  pub upto_all : {t : ℕ} {p : Progress} {text : List ℕ} {s : S} {i o : ℕ} {e : Progress} (v : Unit {0}) (u : S) → Upto t p text s i o e → gives s None u → TextReads (Ok v) t p text e
+  unfolding lines_read
+  upto_all {t} {p} {text} {s} {i} {o} {e} v u h step = go h.rest h.comes h.reads
+    where
+      go : (ls : List (List ℕ)) → Comes s ls → lines_read p.texts t 1 0 (lines_of text) p.items ≡ lines_read p.texts t (i + 1) o ls e.items → TextReads (Ok v) t p text e
+      go [] comes reads = (reads, h.fine)
+      go (l ∷ ls) comes reads = absurd (comes.0 u step)
 
-pub upto_none : (t : ℕ) (p : Progress) (b : Bor (List ℕ)) → p.found ≡ None → Upto t p b.now (Some b) 1 0 p
-upto_none t p b fresh = record { fine = record { texts = refl; found = fresh }; line_small = omega arith; inside = omega arith; reads = refl }
+-- numbered items come as the items do
+pub numbered : {S A B : Type 0} (steps : S → Option A → S → Type 0) (v : A → B) (ys : List B) (s : Enumerate S) → AlwaysYields steps v (enumerate_source s) ys → AlwaysYields (enumerate_steps steps) (λ x. v x.1) s ys
+numbered steps v [] s h = λ x j k. h x.1 (enumerate_source j) k.0
+numbered steps v (y ∷ ys) s h = (
+  λ j k. h.0 (enumerate_source j) k.0,
+  λ x j k. let m = h.1 x.1 (enumerate_source j) k.0 in (m.0, numbered steps v ys j m.1),
+)
 
-pub upto_all : {t : ℕ} {p : Progress} {text : List ℕ} {k o : ℕ} {e : Progress} (v : Unit {0}) → Upto t p text None k o e → TextReads (Ok v) t p text e
-unfolding lines_read
-upto_all v u = (u.reads, u.fine)
+-- a text that is cut at each byte 10 gives its lines
+pub lines_come : {F : Type 0} (g : Mut F (Bor ℕ × Unit {0}) Bool) {f : F} (text : List ℕ) (s : Split ℕ F) (e : Enumerate (Split ℕ F)) → split_rest s ≡ text → split_done s ≡ false → split_callee s ≡ f → enumerate_source e ≡ s → ((x : ℕ) (b : Bool) (q : F) → CalledAt g f x b q → (q ≡ f) × (b ≡ (x == 10))) → Comes (enumerate_steps (split_steps g)) e (lines_of text)
+lines_come g text s e rest done closure source tests =
+    let parts = YieldsList-from_slice_split g (λ b. b == 10) text rest done closure tests in
+    numbered (split_steps g) (λ x. x.now) (lines_of text) e (subst (λ z. AlwaysYields (split_steps g) (λ x. x.now) z (lines_of text)) (sym source) parts.runs)
 
 -- ---- two texts
 
@@ -129,9 +194,6 @@ project_long chip project g h =
     let s : ltb longest (length chip) ≡ false = le-ltb longest (length chip) g in
     let t : ltb longest (length project) ≡ true = lt-ltb longest (length project) h in
     rw (s, t) refl
-
-pub long_both : (x : ReadError) (f : Fault) (y : Result Items Fault) → x ≡ failed.Fault f → y ≡ Err f → BothRead (Err x) y
-long_both x f y is e = subst (λ z. BothRead (Err z) y) (sym is) e
 
 module _ (chip project : List ℕ) (g : length chip ≤ longest) (h : length project ≤ longest) where
   both : sheets_read chip project ≡ and_then (lines_read (chip ∷ project ∷ []) 0 1 0 (lines_of chip) nothing) (λ d. lines_read (chip ∷ project ∷ []) 1 1 0 (lines_of project) d)

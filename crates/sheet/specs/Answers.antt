@@ -1,6 +1,5 @@
 -- What the readers of lines and texts answer.
-use Rattle.std.specs.Prelude.{◌≡◌, ℕ, ◌+◌, List, [], length, Some, None, Ok, Err, Option, Result}
-use Rattle.std.specs.Borrow.{Bor}
+use Rattle.std.specs.Prelude.{◌≡◌, ℕ, List, None, Ok, Err, Result}
 use Rattle.words.specs.declared.ReadError.{ReadError as Unread}
 use Rattle.words.specs.declared.ReadError.TheVariants as unread
 use Rattle.faults.specs.declared.Fault.{Fault}
@@ -53,16 +52,6 @@ abbrev pub LineReads : Result (Unit {0}) Trouble → Start → Progress → List
 LineReads (Ok u) s p bytes e = (line_read p.texts s.text s.offset p.items bytes ≡ Ok e.items) × Fine p e
 LineReads (Err trouble.Memory) s p bytes e = Unit {0}
 LineReads (Err (trouble.Found f)) s p bytes e = line_read p.texts s.text s.offset p.items bytes ≡ Err f
-
--- the lines that are left of a text, where the text goes on after a line
-abbrev pub lines_in : Option (Bor (List ℕ)) → List (List ℕ)
-lines_in None = []
-lines_in (Some text) = lines_of text.now
-
--- how many bytes are left of it, with the byte 10 before them
-abbrev pub left : Option (Bor (List ℕ)) → ℕ
-left None = 0
-left (Some text) = length text.now + 1
 
 -- the lines of a text; want of memory tells nothing
 abbrev pub TextReads : Result (Unit {0}) ReadError → ℕ → Progress → List ℕ → Progress → Type 0

@@ -1,11 +1,11 @@
 // Two texts, read into a plan.
-ghost use Rattle.std.specs.Prelude.{◌≡◌, ◌+◌, ◌≤◌, ◌==◌, ◌∷◌, length, position, None};
+ghost use Rattle.std.specs.Prelude.{◌≡◌, ◌+◌, ◌≤◌, length, None};
 ghost use Rattle.sheet.specs.declared.sheets.ReadError.TheVariants.{Fault as Failed};
 ghost use Rattle.plan.specs.Items.{planned};
 ghost use Rattle.plan.specs.Names.{texts_of};
 ghost use Rattle.sheet.specs.Progress.{progress};
-ghost use Rattle.sheet.specs.Sheets.{slip_problem, lines_of, too_long, sheets_read, trees_of};
-ghost use Rattle.sheet.specs.Answers.{unworded, stopped, fault_at, Ended, LineReads, left, lines_in, TextReads, BothRead, Reads, Solved};
+ghost use Rattle.sheet.specs.Sheets.{slip_problem, too_long, sheets_read, trees_of};
+ghost use Rattle.sheet.specs.Answers.{unworded, stopped, fault_at, Ended, LineReads, TextReads, BothRead, Reads, Solved};
 
 use crate::line::Start;
 use crate::reading::{Reading, Stop};
@@ -90,24 +90,6 @@ impl Trouble {
     }
 }
 
-// Where the first byte 10 of a text stands.
-fn newline(text: &[u8]) -> Option<usize>
-    ensures { result ≡ position (λ b. b == 10) text.now }
-{
-    text.iter().position(|b| *b == b'\n')
-}
-
-// The first line of a text, and the text after its byte 10, if it ends with one.
-fn first_line(text: &[u8]) -> (&[u8], Option<&[u8]>)
-    ensures lines { lines_of text.now ≡ result.0.now ∷ lines_in result.1 }
-    ensures bytes { length result.0.now + left result.1 ≡ length text.now }
-{
-    match newline(text) {
-        Some(end) => (&text[..end], Some(&text[end + 1..])),
-        None => (text, None),
-    }
-}
-
 impl<'a> Reading<'a> {
     // What is wrong with a line whose words are a line.
     fn ended(&self) -> Result<(), Trouble>
@@ -144,21 +126,16 @@ impl<'a> Reading<'a> {
         requires short { length text.now ≤ 32768 }
         ensures { TextReads result number (progress self.old) text.now (progress self.new) }
     {
-        let mut rest = Some(text);
         let mut offset = 0;
-        let mut line = 1;
-        while let Some(bytes) = rest {
-            let (first, more) = first_line(bytes);
+        for (i, bytes) in text.split(|b| *b == b'\n').enumerate() {
             let start = Start {
                 text: number,
                 offset,
             };
-            if let Err(trouble) = self.read_line(heap, start, first) {
-                return Err(trouble.at(number, line));
+            if let Err(trouble) = self.read_line(heap, start, bytes) {
+                return Err(trouble.at(number, i + 1));
             }
-            offset += first.len() + 1;
-            line += 1;
-            rest = more;
+            offset += bytes.len() + 1;
         }
         Ok(())
     }

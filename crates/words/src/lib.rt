@@ -224,10 +224,10 @@ pub fn words<'a>(heap: Global, line: &'a [u8]) -> Result<Vec<Placed<'a>>, ReadEr
     let mut out = Vec::new(heap);
     let mut rest = line;
     let mut column = 1;
-    while !rest.is_empty() {
+    while let [_, after @ ..] = rest {
         match begins(rest) {
             Front::Space => {
-                rest = &rest[1..];
+                rest = after;
                 column += 1;
             }
             Front::Word(token, len) => {

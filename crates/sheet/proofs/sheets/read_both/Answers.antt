@@ -1,15 +1,14 @@
 use Rattle.std.proofs.Common.{refl}
 use Rattle.std.proofs.lemmas.Result.{err_from_is_err_and}
-use Rattle.sheet.specs.Sheets.{too_long}
-use Rattle.sheet.proofs.Texts.{long_both, chip_long, project_long, chip_stops, project_stops, both_read}
+use Rattle.sheet.proofs.Texts.{chip_long, project_long, chip_stops, project_stops, both_read}
 use Rattle.sheet.proofs.sheets.read_both.Goals as goal
 
 pub returns-then-texts-gt-LONGEST : goal.returns-then-texts-gt-LONGEST
-returns-then-texts-gt-LONGEST c = long_both c.too_long.result (too_long 0) _ c.too_long.ensures (chip_long _ _ c.if-texts-gt-LONGEST.true)
+returns-then-texts-gt-LONGEST c = rw c.too_long.ensures (chip_long _ _ c.if-texts-gt-LONGEST.true)
 
 pub returns-then-texts-gt-LONGEST-2 : goal.returns-then-texts-gt-LONGEST-2
 returns-then-texts-gt-LONGEST-2 c =
-    long_both c.too_long-then-texts-gt-LONGEST-2.result (too_long 1) _ c.too_long-then-texts-gt-LONGEST-2.ensures (project_long _ _ c.if-texts-gt-LONGEST.false c.if-texts-gt-LONGEST-2.true)
+    rw c.too_long-then-texts-gt-LONGEST-2.ensures (project_long _ _ c.if-texts-gt-LONGEST.false c.if-texts-gt-LONGEST-2.true)
 
 pub returns-in_err-read_text : goal.returns-in_err-read_text
 returns-in_err-read_text c =
