@@ -103,8 +103,8 @@ fn is_solid(b: u8, least: u8) -> bool
     (least..=2).contains(&class_of(b))
 }
 
-// How many bytes at the front have a class from `least` to 2.
-fn run_len(s: &[u8], least: u8) -> usize
+/// How many bytes at the front have a class from `least` to 2.
+pub fn run_len(s: &[u8], least: u8) -> usize
     ensures { result ≡ prefix_len (solid least) s.now }
 {
     s.iter().take_while(|b| is_solid(**b, least)).count()
