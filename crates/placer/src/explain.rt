@@ -1,6 +1,6 @@
 // A fault in words that help: what is wrong, and what would be right.
 use crate::expect::next_at;
-use crate::known::{Counts, Declared, Faulty, Sort, words_of};
+use crate::known::{Counts, Declaration, Faulty, Sort, words_of};
 use crate::source::{Shown, line_of, word_at};
 use faults::Problem;
 use plan::plans::{CELLS, CONSTRAINTS, PREMISES};
@@ -119,7 +119,7 @@ impl Faulty<'_> {
                 "`{shown}` is not declared; expected a {wanted} that is declared above"
             );
         };
-        let Declared { sort, file, line } = declared;
+        let Declaration { sort, file, line } = declared;
         if sort == wanted {
             return format!(in heap;
                 "the {wanted} `{shown}` is declared only later, at {file}:{line}"
@@ -135,7 +135,7 @@ impl Faulty<'_> {
         let Some(declared) = self.declaration(name)? else {
             return format!(in heap; "`{shown}` was declared before");
         };
-        let Declared { sort, file, line } = declared;
+        let Declaration { sort, file, line } = declared;
         format!(in heap; "`{shown}` was declared before, as a {sort}, at {file}:{line}")
     }
 

@@ -18,7 +18,7 @@ pub struct Faulty<'a> {
 
 /// A declaration: of a cell or a premise, on a line of a file.
 #[derive(Clone, Copy)]
-pub struct Declared<'a> {
+pub struct Declaration<'a> {
     pub sort: Sort,
     pub file: &'a str,
     pub line: usize,
@@ -109,12 +109,12 @@ fn made_by(found: &[Placed<'_>]) -> Counts {
 
 impl<'a> Faulty<'a> {
     /// The first declaration of a name, in the chip sheet or else in the project sheet.
-    pub(crate) fn declaration(self, name: &[u8]) -> Result<Option<Declared<'a>>, AllocError> {
+    pub(crate) fn declaration(self, name: &[u8]) -> Result<Option<Declaration<'a>>, AllocError> {
         for sheet in [self.sheets.chip, self.sheets.project] {
             for (i, bytes) in sheet.text.split(is_end).enumerate() {
                 let found = words_of(self.heap, bytes)?;
                 if let Some(sort) = declares(found.as_slice(), name) {
-                    return Ok(Some(Declared {
+                    return Ok(Some(Declaration {
                         sort,
                         file: sheet.file,
                         line: i.saturating_add(1),

@@ -1,7 +1,7 @@
 // The lines and words of a text, as a message shows them.
 use plan::texts::Texts;
 use std::fmt;
-use words::class_of;
+use words::{class_of, run_len};
 
 /// A sheet: the file that it stands in, and its text.
 #[derive(Clone, Copy)]
@@ -67,14 +67,6 @@ pub(crate) fn before(text: &[u8], number: usize) -> &[u8] {
         .take(number.saturating_sub(1))
         .fold(0usize, |end, line| end.saturating_add(line.len()));
     text.get(..end).unwrap_or(text)
-}
-
-// How many bytes at the front have a class from `least` to 2.
-fn run_len(bytes: &[u8], least: u8) -> usize {
-    bytes
-        .iter()
-        .take_while(|b| (least..=2).contains(&class_of(**b)))
-        .count()
 }
 
 // How many bytes the word at the front has.
