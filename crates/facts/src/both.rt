@@ -7,7 +7,7 @@ use crate::kind::Kind;
 use statements::statement::Statement;
 
 /// It allows what both parts allow. A part may be a Both itself.
-#[derive(Clone, Copy)]
+#[derive(Clone, Copy, PartialEq, Eq, Debug)]
 pub struct Both<A, B> {
     pub first: A,
     pub second: B,
