@@ -62,6 +62,8 @@ impl Ring {
         self.members.insert(k);
     }
 
+    // A function for each end: each reads another place, and only the front moves the head.
+
     /// Removes the oldest number and answers it, absent exactly if none waits.
     pub fn take_oldest(&mut self) -> Option<usize>
         ensures waiting { Taken (waits_in self.old) result (waits_in self.new) }
