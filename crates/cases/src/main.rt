@@ -11,94 +11,77 @@ mod make;
 use faults::Fault;
 use plain::{PlainCounts, PlainFault, PlainPlan};
 use plan::plan::Plan;
+use plan::texts::Texts;
 use sheet::sheets::{ReadError, read};
 use std::io;
 use std::io::{BufRead, BufReader};
 
+// How much of a plan a case prints.
+#[derive(Clone, Copy)]
+enum Extent {
+    Whole,
+    First,
+}
+
 // Prints a plan, whole or its first line.
-fn print_plan(rt: &HostRuntime, is_whole: bool, shown: PlainPlan<'_>) -> io::Result<()> {
-    if is_whole {
-        rt.print(shown)
-    } else {
-        rt.println(PlainCounts(shown.plan))
+fn print_plan(rt: &HostRuntime, extent: Extent, shown: PlainPlan<'_>) -> io::Result<()> {
+    match extent {
+        Extent::Whole => rt.print(shown),
+        Extent::First => rt.println(PlainCounts(shown.plan)),
     }
 }
 
 // Prints a fault, after which the plan has to be empty.
 fn print_fault(rt: &HostRuntime, fault: Fault, plan: &Plan) -> io::Result<()> {
     let shown = PlainFault(fault);
-    if plan.cell_count() == 0 && plan.premise_count() == 0 && plan.constraint_count() == 0 {
+    if plan.cells().is_empty() && plan.premises().is_empty() && plan.constraints().is_empty() {
         return println!(rt; "{shown}");
     }
     println!(rt; "{shown} with a plan that is not empty")
 }
 
 // Reads two texts, and prints what came.
-fn print_read<'a>(
+fn print_read(
     rt: &HostRuntime,
     plan: &mut Plan,
-    is_whole: bool,
-    chip: &'a [u8],
-    project: &'a [u8],
+    extent: Extent,
+    texts: Texts<'_>,
 ) -> io::Result<()> {
-    match read(rt.alloc(), plan, chip, project) {
-        Ok(_) => print_plan(
-            rt,
-            is_whole,
-            PlainPlan {
-                plan,
-                chip,
-                project,
-            },
-        ),
-        Err(error) => match error {
-            ReadError::Memory => rt.println("want of memory"),
-            ReadError::Fault(fault) => print_fault(rt, fault, plan),
-        },
+    match read(rt.alloc(), plan, texts) {
+        Ok(()) => print_plan(rt, extent, PlainPlan { plan, texts }),
+        Err(ReadError::Memory) => rt.println("want of memory"),
+        Err(ReadError::Fault(fault)) => print_fault(rt, fault, plan),
     }
-}
-
-// One case, by the fields of its line.
-fn run_case(
-    rt: &HostRuntime,
-    plan: &mut Plan,
-    name: &[u8],
-    shown: &[u8],
-    texts: (&[u8], &[u8]),
-) -> io::Result<()> {
-    let heap = rt.alloc();
-    let chip = make::text(heap, texts.0)?;
-    let project = make::text(heap, texts.1)?;
-    rt.write_all(name)?;
-    rt.print(": ")?;
-    print_read(
-        rt,
-        plan,
-        shown == b"whole".as_slice(),
-        chip.as_slice(),
-        project.as_slice(),
-    )
 }
 
 // One line of the table.
-fn run_line(rt: &HostRuntime, plan: &mut Plan, line: &[u8]) -> io::Result<()> {
-    if line.first().copied() == Some(b'#') {
+fn run_line(rt: &HostRuntime, plan: &mut Plan, line: &str) -> io::Result<()> {
+    if line.starts_with('#') {
         return Ok(());
     }
-    let fields = make::split(rt.alloc(), line, b'|')?;
-    match fields.as_slice() {
-        [name, shown, chip, project] => {
-            let texts = (chip.as_slice(), project.as_slice());
-            run_case(rt, plan, name.as_slice(), shown.as_slice(), texts)
-        }
-        _ => rt.println("a line of the table that is not NAME|SHOWN|CHIP|PROJECT"),
-    }
+    let heap = rt.alloc();
+    let fields: Vec<&str> = line.split('|').collect(heap)?;
+    let [name, shown, chip, project] = fields.as_slice() else {
+        return rt.println("a line of the table that is not NAME|SHOWN|CHIP|PROJECT");
+    };
+    let chip = make::text(heap, chip.as_bytes())?;
+    let project = make::text(heap, project.as_bytes())?;
+    let texts = Texts {
+        chip: chip.as_slice(),
+        project: project.as_slice(),
+    };
+    let extent = match *shown {
+        "whole" => Extent::Whole,
+        _ => Extent::First,
+    };
+    print!(rt; "{name}: ")?;
+    print_read(rt, plan, extent, texts)
 }
 
 fn main(rt: HostRuntime) -> io::Result<()> {
     let mut plan = Plan::new(rt.alloc());
     for line in BufReader::new(rt.alloc(), rt.stdin())?.lines(rt.alloc()) {
-        run_line(&rt, &mut plan, line?.as_str().as_bytes())?;
+        run_line(&rt, &mut plan, line?.as_str())?;
     }
     Ok(())
 }

@@ -1,8 +1,8 @@
 -- A placement of a draft is carried on, in one way, to what is made next.
-use Rattle.std.proofs.Common.{◌≡◌, ℕ, ◌+◌, ◌<◌, ◌≤◌, true, false, cond, eqb, ltb, ◌⊎◌, List, [], ◌∷◌, ◌++◌, length, ℤ, pos, ◌+ℤ◌, ◌≤ℤ◌, Some, None, Option, sym, refl, ap, ◌∙◌, subst, inl, inr, ⊎_elim, arith}
+use Rattle.std.proofs.Common.{◌≡◌, ℕ, ◌+◌, ◌<◌, ◌≤◌, true, false, cond, eqb, ◌⊎◌, List, [], ◌∷◌, ◌++◌, length, ℤ, pos, ◌+ℤ◌, ◌≤ℤ◌, Some, None, Option, sym, refl, ap, ◌∙◌, subst, inl, inr, ⊎_elim, arith}
 use Rattle.std.proofs.lemmas.Slice.Eq.{bytes_eq-Decides}
 use Rattle.std.proofs.lemmas.Int.{ints, clamps}
-use Rattle.std.proofs.lemmas.Bool.{and_parts, ltb-true, eq-eqb, ne_eqb, cond-true, cond-false, cond_both, cases_lt}
+use Rattle.std.proofs.lemmas.Bool.{and_parts, cond_both}
 use Rattle.words.specs.Words.{top}
 use Rattle.statements.specs.Numbers.{InU}
 use Rattle.statements.specs.Statements.{allowed}
@@ -20,7 +20,8 @@ use Rattle.grammar.specs.Tree.{Expr, one, plus, Term, named, counted, group}
 use Rattle.meaning.specs.Making.{adds, helper, makes, makes_term}
 use Rattle.meaning.specs.Solutions.{Assignment, value, term_value, Summed, TermSummed, Extension, OneExtension}
 use Rattle.meaning.specs.Building.{Counts, TermCounts}
-use Rattle.meaning.proofs.Names.{length_more, first_back, first_new}
+use Rattle.std.proofs.lemmas.List.{length_push}
+use Rattle.meaning.proofs.Names.{first_back, first_new}
 use Rattle.meaning.proofs.Growing.{grows_expr, grows-cell, grows-adds, with_cell, with_premise, Knows, KnowsTerm, knows_term_after}
 use Rattle.meaning.proofs.Sound.{names_of, finds_below, made_expr, made_term}
 use Rattle.meaning.proofs.Reading.{meets-front, meets_last, extension_back, helped, between_is, read_expr, read_term}
@@ -30,10 +31,10 @@ abbrev update : ℕ → ℤ → Placement → Placement
 update n z p c = cond (eqb c n) z (p c)
 
 update_here : (n : ℕ) (z : ℤ) (p : Placement) (c : ℕ) → c ≡ n → update n z p c ≡ z
-update_here n z p c e = cond-true (eqb c n) z (p c) (eq-eqb c n e)
+update_here n z p c e = grind arith
 
 update_below : (n : ℕ) (z : ℤ) (p : Placement) (c : ℕ) → c < n → update n z p c ≡ p c
-update_below n z p c h = cond-false (eqb c n) z (p c) (ne_eqb c n (λ e. omega arith))
+update_below n z p c h = grind arith
 
 update_placed : (n : ℕ) (z : ℤ) (p : Placement) (c : ℕ) → InU z → InU (p c) → InU (update n z p c)
 update_placed n z p c a b = cond_both (eqb c n) z (p c) InU (λ e. a) (λ e. b)
@@ -41,21 +42,13 @@ update_placed n z p c a b = cond_both (eqb c n) z (p c) InU (λ e. a) (λ e. b)
 -- a form asks the same of placements that agree on its cells
 satisfies_same : (n : ℕ) (p q : Placement) → ((c : ℕ) → c < n → p c ≡ q c) → (f : Form) → all_below n (forms.named f) ≡ true → Satisfies p f → Satisfies q f
 satisfies_same n p q e (State c s) b h =
-    subst (λ (z : ℤ). allowed s z ≡ true) (e c (ltb-true c n (and_parts (ltb c n) true b).0)) h
-satisfies_same n p q e (Sum x y c) b h =
-    let i = and_parts (ltb x n) (all_below n (y ∷ c ∷ [])) b in
-    let j = and_parts (ltb y n) (all_below n (c ∷ [])) i.1 in
-    let k = and_parts (ltb c n) true j.1 in
-    (λ w. sym (e x (ltb-true x n i.0)) w +ℤ sym (e y (ltb-true y n j.0)) w) ∙ h ∙ e c (ltb-true c n k.0)
-satisfies_same n p q e (Gap x m y) b h =
-    let i = and_parts (ltb x n) (all_below n (y ∷ [])) b in
-    let j = and_parts (ltb y n) true i.1 in
-    subst (λ (z : ℤ). (q x +ℤ m) ≤ℤ z) (e y (ltb-true y n j.0)) (subst (λ (z : ℤ). (z +ℤ m) ≤ℤ p y) (e x (ltb-true x n i.0)) h)
+    grind (arith, e c)
+satisfies_same n p q e (Sum x y c) b h = grind (arith, e x, e y, e c)
+satisfies_same n p q e (Gap x m y) b h = grind (arith, e x, e y)
 satisfies_same n p q e (Apart x m y l) b h =
-    let i = and_parts (ltb x n) (all_below n (y ∷ [])) b in
-    let j = and_parts (ltb y n) true i.1 in
-    subst (λ (z : ℤ). ((q x +ℤ pos m) ≤ℤ z) ⊎ ((z +ℤ pos l) ≤ℤ q x)) (e y (ltb-true y n j.0))
-    (subst (λ (z : ℤ). ((z +ℤ pos m) ≤ℤ p y) ⊎ ((p y +ℤ pos l) ≤ℤ z)) (e x (ltb-true x n i.0)) h)
+    let i : p x ≡ q x = grind (arith, e x) in
+    let j : p y ≡ q y = grind (arith, e y) in
+    subst (λ (z : ℤ). ((q x +ℤ pos m) ≤ℤ z) ⊎ ((z +ℤ pos l) ≤ℤ q x)) j (subst (λ (z : ℤ). ((z +ℤ pos m) ≤ℤ p y) ⊎ ((p y +ℤ pos l) ≤ℤ z)) i h)
 
 meets_same : (n m : ℕ) (p q : Placement) (s : Premises) → ((c : ℕ) → c < n → p c ≡ q c) → (ks : List Constraint) → all_known n m ks ≡ true → Meets p s ks → Meets q s ks
 meets_same n m p q s e [] b h = tt
@@ -83,8 +76,7 @@ helper-extends ts v p d x b c h =
 
 -- agreeing below n and at n is agreeing below n + 1
 below_next : (n z : ℕ) (x : ℤ) (p q : Placement) → z ≡ n + 1 → ((c : ℕ) → c < n → q c ≡ p c) → q n ≡ x → (c : ℕ) → c < z → q c ≡ update n x p c
-below_next n z x p q e f g c lt =
-    ⊎_elim (λ a. f c a ∙ sym (update_below n x p c a)) (λ a. let k : c ≡ n = omega arith in ap q k ∙ g ∙ sym (update_here n x p c k)) (cases_lt c n)
+below_next n z x p q e f g c lt = grind (arith, f c)
 
 -- a helper whose form pins its number, to one of U, carries the placement on
 helper_one : {ts : Texts} {s : Premises} {v : Assignment} (f : ℕ → Form) (d : Items) (z : ℤ) → sound d ≡ true → InU z
@@ -104,7 +96,7 @@ helper_one {ts} {s} {v} f d z w a pins holds o =
       };
       only = λ q y.
           let h = helped f d y in
-          below_next n (length (d.cells ++ None ∷ [])) z o.placement q (length_more d.cells None) (o.only q h.rest) (pins q h.rest h.holds);
+          below_next n (length (d.cells ++ None ∷ [])) z o.placement q (length_push d.cells None) (o.only q h.rest) (pins q h.rest h.holds);
     }
 
 -- a further constraint that the placement satisfies where it is in force
@@ -131,10 +123,10 @@ premise_one x d o = record {
 }
 
 spelled_same : (o : Option (List ℕ)) (a b : List ℕ) → o ≡ Some a → spells o b ≡ true → a ≡ b
-spelled_same o a b e h = (bytes_eq-Decides a b).0 (ap (λ (u : Option (List ℕ)). spells u b) (sym e) ∙ h)
+spelled_same o a b e h = grind (arith, bytes_eq-Decides a b)
 
 spelled_so : (o : Option (List ℕ)) (a : List ℕ) → o ≡ Some a → spells o a ≡ true
-spelled_so o a e = ap (λ (u : Option (List ℕ)). spells u a) e ∙ (bytes_eq-Decides a a).1 refl
+spelled_so o a e = grind (arith, bytes_eq-Decides a a)
 
 -- a declared cell takes the number of its name
 pub cell_one : {ts : Texts} {s : Premises} {v : Assignment} (x : Place) (a : List ℕ) (d : Items) → sound d ≡ true → InU (v a) → part_of ts x ≡ Some a → cell_of ts d.cells a ≡ None → OneExtension ts d s v → OneExtension ts (with_cell (Some x) d) s v
@@ -151,7 +143,7 @@ cell_one {ts} {s} {v} x a d w u st new o =
             ⊎_elim (λ e. y.extends b c e) (λ e. update_here n (v a) o.placement c (omega (arith, e.0)) ∙ ap v (spelled_same (part_of ts x) a b st e.1)) (first_back (λ i. spells (name_at ts i) b) d.cells (Some x) 0 c h);
       };
       only = λ q z.
-          below_next n (length (d.cells ++ Some x ∷ [])) (v a) o.placement q (length_more d.cells (Some x)) (o.only q (extension_back (grows-cell ts (Some x) d) z.meets z))
+          below_next n (length (d.cells ++ Some x ∷ [])) (v a) o.placement q (length_push d.cells (Some x)) (o.only q (extension_back (grows-cell ts (Some x) d) z.meets z))
           (z.extends a n (first_new (λ i. spells (name_at ts i) a) d.cells (Some x) 0 new (spelled_so (part_of ts x) a st) ∙ ap (λ (i : ℕ). Some i) (omega arith)));
     }
 

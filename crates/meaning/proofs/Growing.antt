@@ -10,7 +10,9 @@ use Rattle.plan.specs.Names.{Texts, cell_of, premise_of, spells, name_at, part_o
 use Rattle.grammar.specs.Tree.{Name, Expr, one, plus, Term, named, counted, group, Owner, Body, within, aligned, apart, at_most, constraint}
 use Rattle.meaning.specs.Making.{or_zero, cell_named, premise_named, adds, helper, makes, makes_term}
 use Rattle.meaning.specs.Checks.{first, wanted, unwanted, expr_fault, term_fault, body_fault, owner_fault, new_fault, line_fault, range_fault}
-use Rattle.meaning.proofs.Names.{length_more, first_past}
+use Rattle.std.proofs.lemmas.List.{length_push}
+use Rattle.std.proofs.lemmas.Option.{none-some}
+use Rattle.meaning.proofs.Names.{first_past}
 
 -- what was found before is found after, under the same numbers
 pub record Grows (ts : Texts) (d e : Items) : Type 0 where
@@ -46,7 +48,7 @@ pub grows-cell : (ts : Texts) (x : Option Place) (d : Items) → Grows ts d (wit
 grows-cell ts x d = record {
   cells_stay = λ b c h. first_past (λ p. spells (name_at ts p) b) d.cells x 0 c h;
   premises_stay = λ b q h. h;
-  more_cells = omega (arith, length_more d.cells x);
+  more_cells = omega (arith, length_push d.cells x);
   more_premises = omega arith;
 }
 
@@ -55,7 +57,7 @@ grows-premise ts x d = record {
   cells_stay = λ b c h. h;
   premises_stay = λ b q h. first_past (λ p. spells (part_of ts p) b) d.premises x 0 q h;
   more_cells = omega arith;
-  more_premises = omega (arith, length_more d.premises x);
+  more_premises = omega (arith, length_push d.premises x);
 }
 
 pub grows-helper : (ts : Texts) (q : Option ℕ) (f : ℕ → Form) (d : Items) → Grows ts d (helper q f d).then
@@ -107,21 +109,18 @@ mutual
   knows_term_after g (counted k) h = tt
   knows_term_after g (group c e k) h = knows_after g e h
 
-fault_none : {X : Type 0} (f : Found) → Some f ≡ None → X
-fault_none f h = let z : ◌≡◌ {A = ℕ} 0 1 = cc in absurd (omega arith)
-
 -- where there is no first problem there is none
 first_none : (f g : Option Found) → first f g ≡ None → (f ≡ None) × (g ≡ None)
 first_none None g h = (refl, h)
-first_none (Some f) g h = fault_none f h
+first_none (Some f) g h = absurd (none-some f (sym h))
 
 wanted_none : (o : Option ℕ) (c : ℕ) → wanted o c ≡ None → o ≡ Some (or_zero o)
-wanted_none None c h = fault_none _ h
+wanted_none None c h = absurd (none-some _ (sym h))
 wanted_none (Some i) c h = refl
 
 unwanted_none : (o : Option ℕ) (c : ℕ) → unwanted o c ≡ None → o ≡ None
 unwanted_none None c h = refl
-unwanted_none (Some i) c h = fault_none _ h
+unwanted_none (Some i) c h = absurd (none-some _ (sym h))
 
 mutual
   expr_knows : (ts : Texts) (d : Items) (e : Expr) → expr_fault ts d e ≡ None → Knows ts d e

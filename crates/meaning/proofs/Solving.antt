@@ -1,7 +1,7 @@
 -- What lines build has the solutions of the lines.
 use Rattle.std.proofs.Common.{◌≡◌, ℕ, Bool, true, ◌⊎◌, List, [], ◌∷◌, ◌++◌, ℤ, pos, ◌+ℤ◌, ◌≤ℤ◌, Some, None, Option, sym, refl, ap, ◌∙◌, subst, arith}
 use Rattle.std.proofs.lemmas.Int.{ints}
-use Rattle.std.proofs.lemmas.Bool.{eqb-true, eq-eqb}
+use Rattle.std.proofs.lemmas.Bool.{false≢true, eqb-true, eq-eqb}
 use Rattle.statements.specs.Numbers.{InU}
 use Rattle.statements.specs.Statements.{allowed}
 use Rattle.statements.specs.declared.statement.Statement.{Statement}
@@ -15,7 +15,7 @@ use Rattle.meaning.specs.Making.{or_zero, cell_named, premise_named, makes, alig
 use Rattle.meaning.specs.Checks.{line_fault}
 use Rattle.meaning.specs.Solutions.{Assignment, BodySummed, Holds, Forced, Solves, SolvesAll, Extension, OneExtension, by_name, SameSolutions}
 use Rattle.meaning.specs.Building.{BodyCounts, Stands, Built, none, more}
-use Rattle.meaning.proofs.Names.{none_some}
+use Rattle.std.proofs.lemmas.Option.{none-some}
 use Rattle.meaning.proofs.Growing.{Grows, grows_none, grows_then, grows-adds, grows_expr, grows-cell, grows-premise, KnowsBody, KnowsOwner, knows_after, constraint_knows, new_name}
 use Rattle.meaning.proofs.Sound.{made_expr, helpers_of, form_of, body_makes_lem, grows-body, built_sound}
 use Rattle.meaning.proofs.Reading.{meets-front, extension_back, read_expr}
@@ -30,7 +30,7 @@ agrees_back g a = record { same = λ b q h. a.same b q (g.premises_stay b q h) }
 
 -- a constraint of the draft is in force exactly when the line is
 all_in_force : {ts : Texts} {d : Items} {s : Premises} {r : List ℕ → Bool} → Agrees ts d s r → (w : Option Owner) (f : Form) → KnowsOwner ts d w → Forced r w → InForce s (record { owner = owner_of ts d w; form = f })
-all_in_force a None f k h = λ q e. let z : ◌≡◌ {A = ℕ} 0 1 = cc in absurd (omega arith)
+all_in_force a None f k h = λ q e. absurd (false≢true e)
 all_in_force {ts} {d} {s} {r} a (Some o) f k h =
     λ q e. ap s (eqb-true q (premise_named ts d o.premise.bytes) e) ∙ a.same o.premise.bytes (premise_named ts d o.premise.bytes) k ∙ h
 
@@ -48,11 +48,10 @@ pub record ReadBody (ts : Texts) (d : Items) (s : Premises) (v : Assignment) (p 
   pub rest : Extension ts d s v p
 
 allowed_same : (t : Statement) (x y : ℤ) → x ≡ y → allowed t x ≡ true → allowed t y ≡ true
-allowed_same t x y e h = subst (λ (z : ℤ). allowed t z ≡ true) e h
+allowed_same t x y e h = grind arith
 
 apart_same : (m n : ℕ) (a b x y : ℤ) → a ≡ x → b ≡ y → ((a +ℤ pos m) ≤ℤ b) ⊎ ((b +ℤ pos n) ≤ℤ a) → ((x +ℤ pos m) ≤ℤ y) ⊎ ((y +ℤ pos n) ≤ℤ x)
-apart_same m n a b x y e f h =
-    subst (λ (z : ℤ). ((x +ℤ pos m) ≤ℤ z) ⊎ ((z +ℤ pos n) ≤ℤ x)) f (subst (λ (z : ℤ). ((z +ℤ pos m) ≤ℤ b) ⊎ ((b +ℤ pos n) ≤ℤ z)) e h)
+apart_same m n a b x y e f h = grind arith
 
 gap_none : (a b x y : ℤ) → a ≡ x → b ≡ y → (a +ℤ pos 0) ≤ℤ b → x ≤ℤ y
 gap_none a b x y e f h = omega (arith, ints)
@@ -142,7 +141,7 @@ solves_last v r (x ∷ xs) l h e = (h.0, solves_last v r xs l h.1 e)
 nothing_one : (ts : Texts) (s : Premises) (v : Assignment) → OneExtension ts nothing s v
 nothing_one ts s v = record {
   placement = λ c. pos 0;
-  is = record { placed = λ c. in_u 0 (omega arith); meets = tt; extends = λ b c h. none_some c h };
+  is = record { placed = λ c. in_u 0 (omega arith); meets = tt; extends = λ b c h. absurd (none-some c h) };
   only = λ p x c lt. absurd (omega arith);
 }
 

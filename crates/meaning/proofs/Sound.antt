@@ -1,6 +1,5 @@
 -- What lines build names only its own cells and premises.
-use Rattle.std.proofs.Common.{◌≡◌, ℕ, ◌<◌, ◌≤◌, true, ◌&&◌, ltb, List, [], ◌∷◌, ◌++◌, length, pos, Some, None, Option, sym, refl, subst, arith}
-use Rattle.std.proofs.lemmas.Bool.{and_from, and_parts, ltb-true, lt-ltb}
+use Rattle.std.proofs.Common.{◌≡◌, ℕ, ◌<◌, ◌≤◌, true, List, [], ◌∷◌, ◌++◌, length, pos, Some, None, Option, sym, refl, subst, arith}
 use Rattle.statements.specs.declared.statement.Statement.TheVariants.{Between}
 use Rattle.plan.specs.declared.constraint.Constraint.{Constraint}
 use Rattle.plan.specs.declared.constraint.Form.{Form}
@@ -14,19 +13,19 @@ use Rattle.grammar.specs.Tree.{Expr, one, plus, Term, named, counted, group, Own
 use Rattle.meaning.specs.Making.{cell_named, premise_named, adds, Grown, helper, makes, makes_term, aligned_to, body_makes, owner_of, place_of, line_makes}
 use Rattle.meaning.specs.Checks.{line_fault}
 use Rattle.meaning.specs.Building.{Built, none, more}
-use Rattle.meaning.proofs.Names.{length_more, first_below}
+use Rattle.std.proofs.lemmas.List.{length_push}
+use Rattle.std.proofs.lemmas.List.Folds.{list_all-append}
+use Rattle.meaning.proofs.Names.{first_below}
 use Rattle.meaning.proofs.Growing.{Grows, grows_none, grows_then, grows_expr, grows_term_lem, with_cell, with_premise, Knows, KnowsTerm, KnowsBody, KnowsOwner, knows_after, knows_term_after, constraint_knows}
 
 -- numbers that are below n are below whatever is not less
 below_more : (n m : ℕ) (cs : List ℕ) → n ≤ m → all_below n cs ≡ true → all_below m cs ≡ true
 below_more n m [] le h = refl
-below_more n m (c ∷ cs) le h =
-    let q = and_parts (ltb c n) (all_below n cs) h in
-    and_from (ltb c m) (all_below m cs) (lt-ltb c m (omega (arith, ltb-true c n q.0))) (below_more n m cs le q.1)
+below_more n m (c ∷ cs) le h = grind (arith, below_more n m cs le)
 
 owner_more : (n m : ℕ) (q : Option ℕ) → n ≤ m → owner_known n q ≡ true → owner_known m q ≡ true
 owner_more n m None le h = refl
-owner_more n m (Some p) le h = lt-ltb p m (omega (arith, ltb-true p n h))
+owner_more n m (Some p) le h = grind arith
 
 -- the parts of a constraint that names only what there is
 pub record Names (n m : ℕ) (k : Constraint) : Type 0 where
@@ -36,52 +35,41 @@ pub record Names (n m : ℕ) (k : Constraint) : Type 0 where
 
 pub names_of : (n m : ℕ) (k : Constraint) → known n m k ≡ true → Names n m k
 names_of n m k h =
-    let a = and_parts (all_below n (forms.named k.form)) (owner_known m k.owner && ranged k.form) h in
-    let b = and_parts (owner_known m k.owner) (ranged k.form) a.1 in
-    record { cells = a.0; owner = b.0; range = b.1 }
+    record { cells = grind arith; owner = grind arith; range = grind arith }
 
 of_names : (n m : ℕ) (k : Constraint) → Names n m k → known n m k ≡ true
-of_names n m k h =
-    and_from (all_below n (forms.named k.form)) (owner_known m k.owner && ranged k.form) h.cells (and_from (owner_known m k.owner) (ranged k.form) h.owner h.range)
-
-names_more : (n i m j : ℕ) (k : Constraint) → n ≤ i → m ≤ j → Names n m k → Names i j k
-names_more n i m j k a b h =
-    record { cells = below_more n i (forms.named k.form) a h.cells; owner = owner_more m j k.owner b h.owner; range = h.range }
+of_names n m k h = grind (arith, h.cells, h.owner, h.range)
 
 -- constraints that name only what there is do so where there is more
 all_known_more : (n i m j : ℕ) (ks : List Constraint) → n ≤ i → m ≤ j → all_known n m ks ≡ true → all_known i j ks ≡ true
 all_known_more n i m j [] a b h = refl
 all_known_more n i m j (k ∷ ks) a b h =
-    let q = and_parts (known n m k) (all_known n m ks) h in
-    and_from (known i j k) (all_known i j ks) (of_names i j k (names_more n i m j k a b (names_of n m k q.0))) (all_known_more n i m j ks a b q.1)
+    grind (arith, below_more n i (forms.named k.form) a, owner_more m j k.owner b, all_known_more n i m j ks a b)
 
 all_known_last : (n m : ℕ) (ks : List Constraint) (k : Constraint) → all_known n m ks ≡ true → Names n m k → all_known n m (ks ++ k ∷ []) ≡ true
-all_known_last n m [] k h e = and_from (known n m k) true (of_names n m k e) refl
-all_known_last n m (x ∷ xs) k h e =
-    let q = and_parts (known n m x) (all_known n m xs) h in
-    and_from (known n m x) (all_known n m (xs ++ k ∷ [])) q.0 (all_known_last n m xs k q.1 e)
+all_known_last n m ks k h e = grind (arith, list_all-append (known n m) ks (k ∷ []), of_names n m k e)
 
 sound-adds : (q : Option ℕ) (f : Form) (d : Items) → sound d ≡ true → Names (length d.cells) (length d.premises) (record { owner = q; form = f }) → sound (adds q f d) ≡ true
 sound-adds q f d h e = all_known_last (length d.cells) (length d.premises) d.constraints (record { owner = q; form = f }) h e
 
 sound-cell : (x : Option Place) (d : Items) → sound d ≡ true → sound (with_cell x d) ≡ true
 sound-cell x d h =
-    all_known_more (length d.cells) (length (d.cells ++ x ∷ [])) (length d.premises) (length d.premises) d.constraints (omega (arith, length_more d.cells x)) (omega arith) h
+    all_known_more (length d.cells) (length (d.cells ++ x ∷ [])) (length d.premises) (length d.premises) d.constraints (omega (arith, length_push d.cells x)) (omega arith) h
 
 sound-premise : (x : Place) (d : Items) → sound d ≡ true → sound (with_premise x d) ≡ true
 sound-premise x d h =
-    all_known_more (length d.cells) (length d.cells) (length d.premises) (length (d.premises ++ x ∷ [])) d.constraints (omega arith) (omega (arith, length_more d.premises x)) h
+    all_known_more (length d.cells) (length d.cells) (length d.premises) (length (d.premises ++ x ∷ [])) d.constraints (omega arith) (omega (arith, length_push d.premises x)) h
 
 -- a helper's constraint names the helper and cells that there were
 sound-helper : (f : ℕ → Form) (d : Items) → sound d ≡ true → ((m : ℕ) → length d.cells < m → all_below m (forms.named (f (length d.cells))) ≡ true) → ranged (f (length d.cells)) ≡ true → sound (helper None f d).then ≡ true
 sound-helper f d h below range =
-    sound-adds None (f (length d.cells)) (with_cell None d) (sound-cell None d h) (record { cells = below (length (d.cells ++ None ∷ [])) (omega (arith, length_more d.cells None)); owner = refl; range = range })
+    sound-adds None (f (length d.cells)) (with_cell None d) (sound-cell None d h) (record { cells = below (length (d.cells ++ None ∷ [])) (omega (arith, length_push d.cells None)); owner = refl; range = range })
 
 below_one : (m a : ℕ) → a < m → all_below m (a ∷ []) ≡ true
-below_one m a h = and_from (ltb a m) true (lt-ltb a m h) refl
+below_one m a h = grind arith
 
 below_two : (m a b : ℕ) → a < m → b < m → all_below m (a ∷ b ∷ []) ≡ true
-below_two m a b h k = and_from (ltb a m) (all_below m (b ∷ [])) (lt-ltb a m h) (below_one m b k)
+below_two m a b h k = grind arith
 
 -- a cell that is found is one of the draft
 pub finds_below : (ts : Texts) (d : Items) (b : List ℕ) (c : ℕ) → cell_of ts d.cells b ≡ Some c → c < length d.cells
@@ -105,16 +93,15 @@ mutual
       let a = (makes ts None e d).cell in
       record {
         is_sound = sound-helper (λ c. Sum a u.cell c) u.then right.is_sound
-            (λ i lt. and_from (ltb a i) (all_below i (u.cell ∷ n ∷ [])) (lt-ltb a i (omega (arith, left.below, g.more_cells))) (below_two i u.cell n (omega (arith, right.below)) lt))
-            refl;
-        below = omega (arith, length_more u.then.cells None);
+            (λ i lt. grind (arith, left.below, right.below, g.more_cells)) refl;
+        below = omega (arith, length_push u.then.cells None);
       }
 
   pub made_term : (ts : Texts) (t : Term) (d : Items) → sound d ≡ true → KnowsTerm ts d t → Made (makes_term ts None t d)
   made_term ts (named n) d h k = record { is_sound = h; below = finds_below ts d n.bytes (cell_named ts d n.bytes) k }
   made_term ts (counted j) d h k = record {
     is_sound = sound-helper (λ c. State c (Between (pos j.value) (pos j.value))) d h (λ i lt. below_one i (length d.cells) lt) refl;
-    below = omega (arith, length_more d.cells None);
+    below = omega (arith, length_push d.cells None);
   }
   made_term ts (group c e j) d h k = made_expr ts e d h k
 
@@ -176,7 +163,7 @@ made_body ts (at_most e c f) d h k =
 owner_known_lem : (ts : Texts) (d : Items) (w : Option Owner) → KnowsOwner ts d w → owner_known (length d.premises) (owner_of ts d w) ≡ true
 owner_known_lem ts d None k = refl
 owner_known_lem ts d (Some o) k =
-    lt-ltb (premise_named ts d o.premise.bytes) (length d.premises) (omega (arith, first_below (λ p. spells (part_of ts p) o.premise.bytes) d.premises 0 (premise_named ts d o.premise.bytes) k))
+    grind (arith, first_below (λ p. spells (part_of ts p) o.premise.bytes) d.premises 0 (premise_named ts d o.premise.bytes) k)
 
 -- a line that is not refused keeps a draft sound
 sound_line : (ts : Texts) (t o : ℕ) (l : Line) (d : Items) → sound d ≡ true → line_fault ts d l ≡ None → sound (line_makes ts t o l d) ≡ true

@@ -11,12 +11,19 @@ pub enum Asked<'a> {
     Help,
 }
 
-/// The two sheets of a check, and whether the answer is for other programs.
+/// Whom an answer is for: people, or other programs.
+#[derive(Clone, Copy, Debug, PartialEq, Eq)]
+pub enum Readers {
+    People,
+    Programs,
+}
+
+/// The two sheets of a check, and whom its answer is for.
 #[derive(Clone, Copy)]
 pub struct Files<'a> {
     pub chip: &'a str,
     pub project: &'a str,
-    pub is_plain: bool,
+    pub readers: Readers,
 }
 
 /// Why a command line asks nothing.
@@ -45,47 +52,31 @@ impl fmt::Display for Misuse<'_> {
 
 // The words after `check`.
 fn check<'a>(words: &'a [String]) -> Result<Asked<'a>, Misuse<'a>> {
-    let mut is_plain = false;
+    let mut readers = Readers::People;
     let mut chip = None;
     let mut project = None;
     for word in words {
-        let word = word.as_str();
-        if word == "--plain" {
-            is_plain = true;
-        } else if word.as_bytes().starts_with(b"--") {
-            return Err(Misuse::Option(word));
-        } else if chip.is_none() {
-            chip = Some(word);
-        } else if project.is_none() {
-            project = Some(word);
-        } else {
-            return Err(Misuse::Extra(word));
+        match (word.as_str(), chip, project) {
+            ("--plain", _, _) => readers = Readers::Programs,
+            (word, _, _) if word.starts_with("--") => return Err(Misuse::Option(word)),
+            (word, None, _) => chip = Some(word),
+            (word, _, None) => project = Some(word),
+            (word, _, _) => return Err(Misuse::Extra(word)),
         }
     }
-    let Some(chip) = chip else {
-        return Err(Misuse::NoChip);
-    };
-    let Some(project) = project else {
-        return Err(Misuse::NoProject);
-    };
     Ok(Asked::Check(Files {
-        chip,
-        project,
-        is_plain,
+        chip: chip.ok_or(Misuse::NoChip)?,
+        project: project.ok_or(Misuse::NoProject)?,
+        readers,
     }))
 }
 
 /// What the words after the program's own name ask.
 pub(crate) fn asked_by<'a>(words: &'a [String]) -> Result<Asked<'a>, Misuse<'a>> {
-    let Some((command, rest)) = words.split_first() else {
-        return Err(Misuse::NoCommand);
-    };
-    let command = command.as_str();
-    if command == "check" {
-        check(rest)
-    } else if command == "--help" {
-        Ok(Asked::Help)
-    } else {
-        Err(Misuse::Command(command))
+    let (command, rest) = words.split_first().ok_or(Misuse::NoCommand)?;
+    match command.as_str() {
+        "check" => check(rest),
+        "--help" => Ok(Asked::Help),
+        command => Err(Misuse::Command(command)),
     }
 }

@@ -1,4 +1,5 @@
 // What may follow the words that a line begins with.
+use std::fmt;
 use words::{Keyword, Placed, Symbol, Token};
 
 /// What a line may go on with. Where nothing else is said a form goes on word by word.
@@ -41,6 +42,13 @@ struct Reached {
     depth: usize,
     is_right: bool,
 }
+
+// Before the first word.
+const START: Reached = Reached {
+    next: Next::Line,
+    depth: 0,
+    is_right: false,
+};
 
 impl Reached {
     fn to(self, next: Next) -> Reached {
@@ -104,7 +112,8 @@ impl Reached {
         }
     }
 
-    // One word further, of a line that is right so far.
+    // One word further, of a line that is right so far. Where a line has got to is an enum, and no function to call next,
+    // since it is shown too.
     fn step(self, token: Token<'_>) -> Reached {
         match self.next {
             Next::Line => self.begun(token, Next::Opened),
@@ -126,34 +135,29 @@ impl Reached {
 
 /// What may follow those words of a line that stand before a column, where they begin some line.
 pub(crate) fn next_at(words: &[Placed<'_>], column: usize) -> Next {
-    let mut reached = Reached {
-        next: Next::Line,
-        depth: 0,
-        is_right: false,
-    };
-    for word in words {
-        if word.column < column {
-            reached = reached.step(word.token);
-        }
-    }
-    reached.next
+    words
+        .iter()
+        .filter(|word| word.column < column)
+        .fold(START, |reached, word| reached.step(word.token))
+        .next
 }
 
-/// In words, what a line may go on with.
-pub(crate) fn words_for(next: Next) -> &'static str {
-    match next {
-        Next::Line => "`cell`, `premise` or a constraint",
-        Next::NewName => "a name to declare",
-        Next::End => "the end of the line",
-        Next::Opened => "`:`, `in`, `align`, `apart`, `+` or `<=`",
-        Next::Constraint => "a constraint, which begins with a name, a number or `(`",
-        Next::Headed => "`in`, `align`, `apart`, `+` or `<=`",
-        Next::Low | Next::Power | Next::Distance | Next::LastNumber => "a number",
-        Next::To => "`to`",
-        Next::Other => "the name of a cell",
-        Next::Term => "a name, a number or `(`",
-        Next::Inside => "`+` or `)`",
-        Next::Left => "`+` or `<=`",
-        Next::Right => "`+` or the end of the line",
+impl fmt::Display for Next {
+    fn fmt<W: fmt::Write>(&self, f: &mut fmt::Formatter<W>) -> fmt::Result {
+        f.write_str(match self {
+            Next::Line => "`cell`, `premise` or a constraint",
+            Next::NewName => "a name to declare",
+            Next::End => "the end of the line",
+            Next::Opened => "`:`, `in`, `align`, `apart`, `+` or `<=`",
+            Next::Constraint => "a constraint, which begins with a name, a number or `(`",
+            Next::Headed => "`in`, `align`, `apart`, `+` or `<=`",
+            Next::Low | Next::Power | Next::Distance | Next::LastNumber => "a number",
+            Next::To => "`to`",
+            Next::Other => "the name of a cell",
+            Next::Term => "a name, a number or `(`",
+            Next::Inside => "`+` or `)`",
+            Next::Left => "`+` or `<=`",
+            Next::Right => "`+` or the end of the line",
+        })
     }
 }

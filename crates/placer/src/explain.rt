@@ -1,15 +1,13 @@
 // A fault in words that help: what is wrong, and what would be right.
-use crate::expect::{next_at, words_for};
-use crate::known::{Counts, Sort, declaration, made_up_to, words_of};
-use crate::source::{Sheets, Shown, line_of, word_at};
-use faults::{Fault, Problem};
+use crate::expect::next_at;
+use crate::known::{Counts, Declaration, Faulty, Sort, words_of};
+use crate::source::{Shown, line_of, word_at};
+use faults::Problem;
 use plan::plans::{CELLS, CONSTRAINTS, PREMISES};
+use sheet::FINEST;
 use sheet::sheets::LONGEST;
 use std::alloc::{AllocError, Global};
 use words::{LONGEST as LONGEST_NAME, Placed, Symbol, TOP, Token};
-
-// The largest power of two that an alignment may name.
-const FINEST: u32 = 24;
 
 // A byte that no word has there.
 fn byte_words(heap: Global, byte: u8) -> Result<String, AllocError> {
@@ -39,7 +37,7 @@ fn word_words(
     found: &[Placed<'_>],
     column: usize,
 ) -> Result<String, AllocError> {
-    let expected = words_for(next_at(found, column));
+    let expected = next_at(found, column);
     if word.is_empty() {
         return format!(in heap; "the line ends too early; expected {expected}");
     }
@@ -61,50 +59,6 @@ fn wanted_sort(found: &[Placed<'_>], column: usize) -> Sort {
         Token::Symbol(Symbol::Colon) if first.column == column => Sort::Premise,
         _ => Sort::Cell,
     }
-}
-
-fn sort_word(sort: Sort) -> &'static str {
-    match sort {
-        Sort::Cell => "cell",
-        Sort::Premise => "premise",
-    }
-}
-
-// A name that is unknown so far, or of the other sort.
-fn unknown_words(
-    heap: Global,
-    sheets: Sheets<'_>,
-    name: &[u8],
-    wanted: Sort,
-) -> Result<String, AllocError> {
-    let shown = Shown(name);
-    let wanted_word = sort_word(wanted);
-    let Some(declared) = declaration(heap, sheets, name)? else {
-        return format!(in heap;
-            "`{shown}` is not declared; expected a {wanted_word} that is declared above"
-        );
-    };
-    let file = declared.file;
-    let line = declared.line;
-    if declared.sort == wanted {
-        return format!(in heap;
-            "the {wanted_word} `{shown}` is declared only later, at {file}:{line}"
-        );
-    }
-    let sort = sort_word(declared.sort);
-    format!(in heap; "`{shown}` is a {sort}, declared at {file}:{line}; expected a {wanted_word}")
-}
-
-// A name that was declared before.
-fn twice_words(heap: Global, sheets: Sheets<'_>, name: &[u8]) -> Result<String, AllocError> {
-    let shown = Shown(name);
-    let Some(declared) = declaration(heap, sheets, name)? else {
-        return format!(in heap; "`{shown}` was declared before");
-    };
-    let sort = sort_word(declared.sort);
-    let file = declared.file;
-    let line = declared.line;
-    format!(in heap; "`{shown}` was declared before, as a {sort}, at {file}:{line}")
 }
 
 // More than a plan may have.
@@ -136,12 +90,13 @@ fn full_words(heap: Global, counts: Counts) -> Result<String, AllocError> {
 
 // The first number of a line.
 fn first_number(found: &[Placed<'_>]) -> u32 {
-    for word in found {
-        if let Token::Number(n) = word.token {
-            return n;
-        }
-    }
-    0
+    found
+        .iter()
+        .find_map(|word| match word.token {
+            Token::Number(n) => Some(n),
+            _ => None,
+        })
+        .unwrap_or(0)
 }
 
 // A power, or what is left by it, outside its range.
@@ -154,48 +109,72 @@ fn range_words(heap: Global, k: u32, number: &[u8]) -> Result<String, AllocError
     format!(in heap; "the rest {shown} is outside its range, 0 to {last} for the power {k}")
 }
 
-// What is wrong with a word of a line.
-fn line_words(
-    heap: Global,
-    sheets: Sheets<'_>,
-    fault: Fault,
-    line: &[u8],
-) -> Result<String, AllocError> {
-    let column = fault.column;
-    let word = word_at(line, column);
-    let shown = Shown(word);
-    let found = words_of(heap, line)?;
-    let found = found.as_slice();
-    match fault.problem {
-        Problem::Byte => byte_words(heap, word.first().copied().unwrap_or(0)),
-        Problem::LargeNumber => format!(in heap;
-            "the number {shown} is too large; the largest is {TOP}"
-        ),
-        Problem::LongName => {
-            let len = word.len();
-            format!(in heap;
-                "the name `{shown}` has {len} bytes; a name has at most {LONGEST_NAME}"
-            )
+impl Faulty<'_> {
+    // A name that is unknown so far, or of the other sort.
+    fn unknown_words(self, name: &[u8], wanted: Sort) -> Result<String, AllocError> {
+        let heap = self.heap;
+        let shown = Shown(name);
+        let Some(declared) = self.declaration(name)? else {
+            return format!(in heap;
+                "`{shown}` is not declared; expected a {wanted} that is declared above"
+            );
+        };
+        let Declaration { sort, file, line } = declared;
+        if sort == wanted {
+            return format!(in heap;
+                "the {wanted} `{shown}` is declared only later, at {file}:{line}"
+            );
         }
-        Problem::Nesting => String::from_str(heap, "parentheses nest more than 16 deep"),
-        Problem::Unknown => unknown_words(heap, sheets, word, wanted_sort(found, column)),
-        Problem::Twice => twice_words(heap, sheets, word),
-        Problem::Full => full_words(heap, made_up_to(heap, sheets, fault, found)?),
-        Problem::Range => range_words(heap, first_number(found), word),
-        _ => word_words(heap, word, found, column),
+        format!(in heap; "`{shown}` is a {sort}, declared at {file}:{line}; expected a {wanted}")
     }
-}
 
-/// What is wrong, in words.
-pub(crate) fn explained(
-    heap: Global,
-    sheets: Sheets<'_>,
-    fault: Fault,
-) -> Result<String, AllocError> {
-    let text = sheets.sheet(fault.text).text;
-    if fault.problem == Problem::LongText {
-        let len = text.len();
-        return format!(in heap; "the file has {len} bytes; a sheet has at most {LONGEST}");
+    // A name that was declared before.
+    fn twice_words(self, name: &[u8]) -> Result<String, AllocError> {
+        let heap = self.heap;
+        let shown = Shown(name);
+        let Some(declared) = self.declaration(name)? else {
+            return format!(in heap; "`{shown}` was declared before");
+        };
+        let Declaration { sort, file, line } = declared;
+        format!(in heap; "`{shown}` was declared before, as a {sort}, at {file}:{line}")
     }
-    line_words(heap, sheets, fault, line_of(heap, text, fault.line)?)
+
+    // What is wrong with a word of a line.
+    fn line_words(self, line: &[u8]) -> Result<String, AllocError> {
+        let heap = self.heap;
+        let column = self.fault.column;
+        let word = word_at(line, column);
+        let shown = Shown(word);
+        let found = words_of(heap, line)?;
+        let found = found.as_slice();
+        match self.fault.problem {
+            Problem::Byte => byte_words(heap, word.first().copied().unwrap_or(0)),
+            Problem::LargeNumber => format!(in heap;
+                "the number {shown} is too large; the largest is {TOP}"
+            ),
+            Problem::LongName => {
+                let len = word.len();
+                format!(in heap;
+                    "the name `{shown}` has {len} bytes; a name has at most {LONGEST_NAME}"
+                )
+            }
+            Problem::Nesting => String::from_str(heap, "parentheses nest more than 16 deep"),
+            Problem::Unknown => self.unknown_words(word, wanted_sort(found, column)),
+            Problem::Twice => self.twice_words(word),
+            Problem::Full => full_words(heap, self.made_up_to(found)),
+            Problem::Range => range_words(heap, first_number(found), word),
+            _ => word_words(heap, word, found, column),
+        }
+    }
+
+    /// What is wrong, in words.
+    pub(crate) fn explained(self) -> Result<String, AllocError> {
+        let heap = self.heap;
+        let text = self.sheets.sheet(self.fault.text).text;
+        if self.fault.problem == Problem::LongText {
+            let len = text.len();
+            return format!(in heap; "the file has {len} bytes; a sheet has at most {LONGEST}");
+        }
+        self.line_words(line_of(text, self.fault.line))
+    }
 }

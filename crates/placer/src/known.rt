@@ -1,14 +1,24 @@
 // What the sheets around a fault tell of it: where a name is declared, and how much is made up to a line.
-use crate::source::{Sheets, before, lines};
+use crate::source::{Sheets, before, is_end};
 use faults::Fault;
 use plan::plan::Plan;
+use plan::texts::Texts;
 use sheet::sheets::read;
 use std::alloc::{AllocError, Global};
-use words::{Keyword, Placed, Symbol, Token};
+use std::fmt;
+use words::{Keyword, Placed, ReadError, Symbol, Token};
+
+/// A fault in one of two sheets, and the heap for what is said of it.
+#[derive(Clone, Copy)]
+pub struct Faulty<'a> {
+    pub heap: Global,
+    pub sheets: Sheets<'a>,
+    pub fault: Fault,
+}
 
 /// A declaration: of a cell or a premise, on a line of a file.
 #[derive(Clone, Copy)]
-pub struct Declared<'a> {
+pub struct Declaration<'a> {
     pub sort: Sort,
     pub file: &'a str,
     pub line: usize,
@@ -22,21 +32,28 @@ pub enum Sort {
 }
 
 /// How many cells, constraints and premises there are.
-#[derive(Clone, Copy)]
+#[derive(Clone, Copy, Default)]
 pub struct Counts {
     pub cells: usize,
     pub constraints: usize,
     pub premises: usize,
 }
 
+impl fmt::Display for Sort {
+    fn fmt<W: fmt::Write>(&self, f: &mut fmt::Formatter<W>) -> fmt::Result {
+        f.write_str(match self {
+            Sort::Cell => "cell",
+            Sort::Premise => "premise",
+        })
+    }
+}
+
 /// The words of a line; none where it has a byte, number or name that no line has.
 pub(crate) fn words_of<'a>(heap: Global, line: &'a [u8]) -> Result<Vec<Placed<'a>>, AllocError> {
     match words::words(heap, line) {
         Ok(found) => Ok(found),
-        Err(error) => match error {
-            words::ReadError::Memory => Err(AllocError),
-            words::ReadError::Fault(_, _) => Ok(Vec::new(heap)),
-        },
+        Err(ReadError::Memory) => Err(AllocError),
+        Err(ReadError::Fault(_, _)) => Ok(Vec::new(heap)),
     }
 }
 
@@ -45,93 +62,90 @@ fn declares(found: &[Placed<'_>], name: &[u8]) -> Option<Sort> {
     let [first, second] = found else {
         return None;
     };
-    let Token::Name(declared) = second.token else {
-        return None;
-    };
-    if declared != name {
-        return None;
-    }
-    match first.token {
-        Token::Reserved(Keyword::Cell) => Some(Sort::Cell),
-        Token::Reserved(Keyword::Premise) => Some(Sort::Premise),
+    match (first.token, second.token) {
+        (Token::Reserved(keyword), Token::Name(declared)) if declared == name => match keyword {
+            Keyword::Cell => Some(Sort::Cell),
+            Keyword::Premise => Some(Sort::Premise),
+            _ => None,
+        },
         _ => None,
     }
 }
 
-/// The first declaration of a name, in the chip sheet or else in the project sheet.
-pub(crate) fn declaration<'a>(
-    heap: Global,
-    sheets: Sheets<'a>,
-    name: &[u8],
-) -> Result<Option<Declared<'a>>, AllocError> {
-    for sheet in [sheets.chip, sheets.project] {
-        let file = sheet.file;
-        let mut line: usize = 0;
-        for bytes in lines(heap, sheet.text)?.iter() {
-            line = line.saturating_add(1);
-            let found = words_of(heap, bytes)?;
-            if let Some(sort) = declares(found.as_slice(), name) {
-                return Ok(Some(Declared { sort, file, line }));
-            }
-        }
-    }
-    Ok(None)
-}
-
 // How many helper cells a line has, each with a constraint: one for each number and each `+` around a `<=`.
 fn helpers(found: &[Placed<'_>]) -> usize {
-    let mut is_bound = false;
-    let mut made: usize = 0;
-    for word in found {
-        match word.token {
-            Token::Symbol(Symbol::AtMost) => is_bound = true,
-            Token::Symbol(Symbol::Plus) | Token::Number(_) => made = made.saturating_add(1),
-            _ => {}
-        }
+    let is_bound = found
+        .iter()
+        .any(|word| matches!(word.token, Token::Symbol(Symbol::AtMost)));
+    if !is_bound {
+        return 0;
     }
-    if is_bound { made } else { 0 }
+    found
+        .iter()
+        .filter(|word| matches!(word.token, Token::Symbol(Symbol::Plus) | Token::Number(_)))
+        .count()
 }
 
 // What a line that is right makes.
 fn made_by(found: &[Placed<'_>]) -> Counts {
-    let mut made = Counts {
-        cells: 0,
-        constraints: 0,
-        premises: 0,
-    };
-    let Some(first) = found.first() else {
-        return made;
-    };
-    match first.token {
-        Token::Reserved(Keyword::Cell) => made.cells = 1,
-        Token::Reserved(_) => made.premises = 1,
-        _ => {
-            made.cells = helpers(found);
-            made.constraints = made.cells.saturating_add(1);
+    let none = Counts::default();
+    match found.first().map(|word| word.token) {
+        None => none,
+        Some(Token::Reserved(Keyword::Cell)) => Counts { cells: 1, ..none },
+        Some(Token::Reserved(_)) => Counts {
+            premises: 1,
+            ..none
+        },
+        Some(_) => {
+            let cells = helpers(found);
+            Counts {
+                cells,
+                constraints: cells.saturating_add(1),
+                premises: 0,
+            }
         }
     }
-    made
 }
 
-/// How much is made up to the line of a fault, that line with these words included.
-pub(crate) fn made_up_to(
-    heap: Global,
-    sheets: Sheets<'_>,
-    fault: Fault,
-    found: &[Placed<'_>],
-) -> Result<Counts, AllocError> {
-    let mut plan = Plan::new(heap);
-    let cut = before(heap, sheets.sheet(fault.text).text, fault.line)?;
-    // The lines before the first fault have none, so that this is read; if not, the line is all that counts.
-    let _ = if fault.text == 0 {
-        read(heap, &mut plan, cut, &[])
-    } else {
-        read(heap, &mut plan, sheets.chip.text, cut)
-    };
-    let line = made_by(found);
-    Ok(Counts {
-        cells: line.cells.saturating_add(plan.cell_count()),
-        constraints: line.constraints.saturating_add(plan.constraint_count()),
-        premises: line.premises.saturating_add(plan.premise_count()),
-    })
+impl<'a> Faulty<'a> {
+    /// The first declaration of a name, in the chip sheet or else in the project sheet.
+    pub(crate) fn declaration(self, name: &[u8]) -> Result<Option<Declaration<'a>>, AllocError> {
+        for sheet in [self.sheets.chip, self.sheets.project] {
+            for (i, bytes) in sheet.text.split(is_end).enumerate() {
+                let found = words_of(self.heap, bytes)?;
+                if let Some(sort) = declares(found.as_slice(), name) {
+                    return Ok(Some(Declaration {
+                        sort,
+                        file: sheet.file,
+                        line: i.saturating_add(1),
+                    }));
+                }
+            }
+        }
+        Ok(None)
+    }
+
+    /// How much is made up to the line of the fault, that line with these words included.
+    pub(crate) fn made_up_to(self, found: &[Placed<'_>]) -> Counts {
+        let mut plan = Plan::new(self.heap);
+        let cut = before(self.sheets.sheet(self.fault.text).text, self.fault.line);
+        let texts = match self.fault.text {
+            0 => Texts {
+                chip: cut,
+                project: &[],
+            },
+            _ => Texts {
+                chip: self.sheets.chip.text,
+                project: cut,
+            },
+        };
+        // The lines before the first fault have none, so that this is read; if not, the line is all that counts.
+        let _ = read(self.heap, &mut plan, texts);
+        let line = made_by(found);
+        Counts {
+            cells: line.cells.saturating_add(plan.cell_count()),
+            constraints: line.constraints.saturating_add(plan.constraint_count()),
+            premises: line.premises.saturating_add(plan.premise_count()),
+        }
+    }
 }

@@ -8,11 +8,12 @@ mod known;
 mod show;
 mod source;
 
-use args::{Asked, Files, USAGE, asked_by};
-use explain::explained;
-use faults::{Fault, Problem};
+use args::{Asked, Files, Readers, USAGE, asked_by};
+use faults::Problem;
+use known::Faulty;
 use plain::{PlainFault, PlainPlan};
 use plan::plan::Plan;
+use plan::texts::Texts;
 use sheet::sheets::{ReadError, read};
 use show::ShownPlan;
 use source::{Pointed, Sheet, Sheets, line_of};
@@ -42,13 +43,7 @@ impl From<AllocError> for Failure {
 
 // The words of the command line after the program's own name.
 fn words(rt: &HostRuntime) -> Result<Vec<String>, Failure> {
-    let mut all = Vec::new(rt.alloc());
-    for word in env::args(rt)?.skip(1) {
-        if all.push(word).is_err() {
-            return Err(Failure::Memory);
-        }
-    }
-    Ok(all)
+    Ok(env::args(rt)?.skip(1).collect(rt.alloc())?)
 }
 
 // The bytes of a file.
@@ -65,53 +60,38 @@ fn bytes_of(rt: &HostRuntime, file: &str) -> Result<Vec<u8>, Failure> {
 // Prints a plan, for programs or for people.
 fn print_plan<'a>(
     rt: &HostRuntime,
-    is_plain: bool,
+    readers: Readers,
     plan: &'a Plan,
-    chip: &'a [u8],
-    project: &'a [u8],
+    texts: Texts<'a>,
 ) -> io::Result<()> {
-    if is_plain {
-        rt.print(PlainPlan {
-            plan,
-            chip,
-            project,
-        })
-    } else {
-        rt.print(ShownPlan {
-            plan,
-            chip,
-            project,
-        })
+    match readers {
+        Readers::Programs => rt.print(PlainPlan { plan, texts }),
+        Readers::People => rt.print(ShownPlan { plan, texts }),
     }
 }
 
 // A fault for people: its place and what is wrong, and the line with a caret at the place.
-fn tell_fault(rt: &HostRuntime, sheets: Sheets<'_>, fault: Fault) -> Result<(), Failure> {
-    let sheet = sheets.sheet(fault.text);
-    let words = explained(rt.alloc(), sheets, fault)?;
+fn tell_fault(rt: &HostRuntime, faulty: Faulty<'_>) -> Result<(), Failure> {
+    let fault = faulty.fault;
+    let sheet = faulty.sheets.sheet(fault.text);
+    let words = faulty.explained()?;
     let file = sheet.file;
     let line = fault.line;
     let column = fault.column;
     let number = fault.problem.number();
     eprintln!(rt; "{file}:{line}:{column}: error {number}: {words}")?;
     if fault.problem != Problem::LongText {
-        let line = line_of(rt.alloc(), sheet.text, line)?;
+        let line = line_of(sheet.text, line);
         rt.eprint(Pointed { line, column })?;
     }
     Ok(())
 }
 
 // Tells a fault, and fails.
-fn faulty(
-    rt: &HostRuntime,
-    is_plain: bool,
-    sheets: Sheets<'_>,
-    fault: Fault,
-) -> Result<(), Failure> {
-    if is_plain {
-        rt.println(PlainFault(fault))?;
-    } else {
-        tell_fault(rt, sheets, fault)?;
+fn tell(rt: &HostRuntime, readers: Readers, faulty: Faulty<'_>) -> Result<(), Failure> {
+    match readers {
+        Readers::Programs => rt.println(PlainFault(faulty.fault))?,
+        Readers::People => tell_fault(rt, faulty)?,
     }
     Err(Failure::Told)
 }
@@ -120,27 +100,31 @@ fn faulty(
 fn check(rt: &HostRuntime, files: Files<'_>) -> Result<(), Failure> {
     let chip = bytes_of(rt, files.chip)?;
     let project = bytes_of(rt, files.project)?;
-    let chip = chip.as_slice();
-    let project = project.as_slice();
-    let mut plan = Plan::new(rt.alloc());
-    match read(rt.alloc(), &mut plan, chip, project) {
-        Ok(_) => Ok(print_plan(rt, files.is_plain, &plan, chip, project)?),
-        Err(error) => match error {
-            ReadError::Memory => Err(Failure::Memory),
-            ReadError::Fault(fault) => {
-                let sheets = Sheets {
-                    chip: Sheet {
-                        file: files.chip,
-                        text: chip,
-                    },
-                    project: Sheet {
-                        file: files.project,
-                        text: project,
-                    },
-                };
-                faulty(rt, files.is_plain, sheets, fault)
-            }
+    let sheets = Sheets {
+        chip: Sheet {
+            file: files.chip,
+            text: chip.as_slice(),
         },
+        project: Sheet {
+            file: files.project,
+            text: project.as_slice(),
+        },
+    };
+    let texts = sheets.texts();
+    let heap = rt.alloc();
+    let mut plan = Plan::new(heap);
+    match read(heap, &mut plan, texts) {
+        Ok(()) => Ok(print_plan(rt, files.readers, &plan, texts)?),
+        Err(ReadError::Memory) => Err(Failure::Memory),
+        Err(ReadError::Fault(fault)) => tell(
+            rt,
+            files.readers,
+            Faulty {
+                heap,
+                sheets,
+                fault,
+            },
+        ),
     }
 }
 
@@ -157,8 +141,7 @@ fn run(rt: &HostRuntime) -> Result<(), Failure> {
 }
 
 fn main(rt: HostRuntime) -> ExitCode {
-    let ended = run(&rt);
-    match &ended {
+    match run(&rt) {
         Ok(()) => return ExitCode::SUCCESS,
         Err(Failure::Outside(error)) => {
             let _ = eprintln!(rt; "placer: {error}");

@@ -1,15 +1,18 @@
 // A plan as people read it: cells and premises by name, constraints as formulas with their premise in front.
-use plan::constraint::{Constraint, Form};
+use plan::constraint::Form;
+use plan::names::Declared;
 use plan::plan::Plan;
+use plan::texts::Texts;
 use statements::statement::Statement;
 use std::fmt;
 
+// PlainPlan of plain has the same two fields: each type stands for one way to print, as a type has one Display, and a type
+// between them and the fields would say no more.
 /// A plan with the two texts that it was read from.
 #[derive(Clone, Copy)]
 pub struct ShownPlan<'a> {
     pub plan: &'a Plan,
-    pub chip: &'a [u8],
-    pub project: &'a [u8],
+    pub texts: Texts<'a>,
 }
 
 // A cell by its name, or a helper by its number in parentheses.
@@ -29,38 +32,22 @@ struct Said(Statement);
 struct Asks<'a>(ShownPlan<'a>, Form);
 
 fn text_of(bytes: &[u8]) -> &str {
-    match std::str::from_utf8(bytes) {
-        Ok(text) => text,
-        Err(_) => "?",
-    }
+    std::str::from_utf8(bytes).unwrap_or("?")
 }
 
 impl<'a> ShownPlan<'a> {
     // The name of a cell, absent for a helper.
     fn cell(self, i: usize) -> Option<&'a str> {
-        match self.plan.name(i, self.chip, self.project) {
-            Ok(Some(bytes)) => Some(text_of(bytes)),
-            _ => None,
-        }
+        self.plan.name(i, self.texts).ok().flatten().map(text_of)
     }
 
     // The name of a premise.
     fn premise(self, i: usize) -> &'a str {
-        match self.plan.premise_name(i, self.chip, self.project) {
-            Ok(Some(bytes)) => text_of(bytes),
-            _ => "?",
-        }
-    }
-
-    // How many cells have no name.
-    fn helper_count(self) -> usize {
-        let mut count: usize = 0;
-        for i in 0..self.plan.cell_count() {
-            if self.cell(i).is_none() {
-                count = count.saturating_add(1);
-            }
-        }
-        count
+        self.plan
+            .premise_name(i, self.texts)
+            .ok()
+            .flatten()
+            .map_or("?", text_of)
     }
 }
 
@@ -142,47 +129,45 @@ impl fmt::Display for Asks<'_> {
     }
 }
 
-// The cells that are declared; a helper shows where a constraint names it.
-fn cells<W: fmt::Write>(shown: ShownPlan<'_>, f: &mut fmt::Formatter<W>) -> fmt::Result {
-    let count = shown.plan.cell_count();
-    let helpers = shown.helper_count();
-    writeln!(f, "cells: {count}, of which {helpers} are helpers")?;
-    for i in 0..count {
-        if let Some(name) = shown.cell(i) {
+// The lines of the cells or of the premises, from 0 on: the number and the name, where there is one.
+fn names<D: Declared, W: fmt::Write>(
+    all: &[D],
+    texts: Texts<'_>,
+    f: &mut fmt::Formatter<W>,
+) -> fmt::Result {
+    for (i, declared) in all.iter().enumerate() {
+        if let Some(bytes) = texts.name(*declared) {
+            let name = text_of(bytes);
             writeln!(f, "{i:>5}  {name}")?;
         }
     }
     Ok(())
 }
 
-fn premises<W: fmt::Write>(shown: ShownPlan<'_>, f: &mut fmt::Formatter<W>) -> fmt::Result {
-    let count = shown.plan.premise_count();
-    writeln!(f, "premises: {count}")?;
-    for i in 0..count {
-        let name = shown.premise(i);
-        writeln!(f, "{i:>5}  {name}")?;
-    }
-    Ok(())
+// The cells that are declared; a helper shows where a constraint names it.
+fn cells<W: fmt::Write>(shown: ShownPlan<'_>, f: &mut fmt::Formatter<W>) -> fmt::Result {
+    let cells = shown.plan.cells();
+    let count = cells.len();
+    let helpers = cells.iter().filter(|cell| cell.is_none()).count();
+    writeln!(f, "cells: {count}, of which {helpers} are helpers")?;
+    names(cells, shown.texts, f)
 }
 
-fn constraint<W: fmt::Write>(
-    shown: ShownPlan<'_>,
-    i: usize,
-    constraint: Constraint,
-    f: &mut fmt::Formatter<W>,
-) -> fmt::Result {
-    let owner = Owner(shown, constraint.owner);
-    let asks = Asks(shown, constraint.form);
-    writeln!(f, "{i:>5}  {owner}{asks}")
+fn premises<W: fmt::Write>(shown: ShownPlan<'_>, f: &mut fmt::Formatter<W>) -> fmt::Result {
+    let premises = shown.plan.premises();
+    let count = premises.len();
+    writeln!(f, "premises: {count}")?;
+    names(premises, shown.texts, f)
 }
 
 fn constraints<W: fmt::Write>(shown: ShownPlan<'_>, f: &mut fmt::Formatter<W>) -> fmt::Result {
-    let count = shown.plan.constraint_count();
+    let constraints = shown.plan.constraints();
+    let count = constraints.len();
     writeln!(f, "constraints: {count}")?;
-    for i in 0..count {
-        if let Some(found) = shown.plan.constraint(i) {
-            constraint(shown, i, found, f)?;
-        }
+    for (i, constraint) in constraints.iter().enumerate() {
+        let owner = Owner(shown, constraint.owner);
+        let asks = Asks(shown, constraint.form);
+        writeln!(f, "{i:>5}  {owner}{asks}")?;
     }
     Ok(())
 }

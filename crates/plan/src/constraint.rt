@@ -2,7 +2,7 @@
 use statements::statement::Statement;
 
 /// What a constraint asks of the numbers of its cells.
-#[derive(Clone, Copy)]
+#[derive(Clone, Copy, Debug, PartialEq, Eq)]
 pub enum Form {
     /// The statement allows the first cell's number.
     State(usize, Statement),
@@ -15,7 +15,7 @@ pub enum Form {
 }
 
 /// A form and the premise that owns it: in force when that is, or always where there is none.
-#[derive(Clone, Copy)]
+#[derive(Clone, Copy, Debug, PartialEq, Eq)]
 pub struct Constraint {
     pub owner: Option<usize>,
     pub form: Form,

@@ -31,8 +31,7 @@ fn is_named_below(form: Form, cells: usize) -> bool
     match form {
         Form::State(c, _) => c < cells,
         Form::Sum(a, b, c) => a < cells && b < cells && c < cells,
-        Form::Gap(a, _, b) => a < cells && b < cells,
-        Form::Apart(a, _, b, _) => a < cells && b < cells,
+        Form::Gap(a, _, b) | Form::Apart(a, _, b, _) => a < cells && b < cells,
     }
 }
 

@@ -9,7 +9,7 @@ use crate::numbers::{BOTTOM, TOP};
 use crate::residue::Residue;
 
 /// What can be said of a number of U.
-#[derive(Clone, Copy)]
+#[derive(Clone, Copy, PartialEq, Eq, Debug)]
 pub enum Statement {
     Between(i64, i64),
     Aligned(Residue),
