@@ -55,7 +55,7 @@ pub(crate) fn expect<'w, 'a>(
     }
 }
 
-// A number.
+// A number. Each kind of word has a reader of its own, since each gives something else: a number, a name, or nothing.
 pub(crate) fn next_number<'w, 'a>(
     words: &'w [Placed<'a>],
 ) -> Result<(Number, &'w [Placed<'a>]), Stop>

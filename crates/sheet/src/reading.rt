@@ -117,7 +117,8 @@ impl<'a> Reading<'a> {
         Ok(cell)
     }
 
-    // A helper cell that holds the sum of two cells.
+    // A helper cell that holds the sum of two cells. One function for both helpers would take the constraint as a
+    // closure, and be no shorter.
     pub(crate) fn add_sum(&mut self, a: usize, b: usize) -> Result<usize, Stop>
         ensures { Added result (makes_sum None a b (progress self.old).items) (progress self.old) (progress self.new) }
     {
