@@ -24,6 +24,7 @@ fn least(s: Statement, n: i64) -> i64
 }
 
 // The greatest number of s from n down, -M - 1 where there is none.
+// It mirrors least: with a direction to pass, one function would be longer than the two.
 fn greatest(s: Statement, n: i64) -> i64
     ensures { result ≡ down s n }
 {
@@ -49,6 +50,7 @@ impl<K: Kind> Reading<'_, K> {
     }
 
     // The highest of cell x.
+    // It mirrors low: with a direction to pass, one function would be longer than the two.
     fn high(&self, x: usize) -> i64
         requires { x < length self.now.table.now }
         ensures is { result ≡ high K.model (table_of K.model self.now.table.now x).fact }

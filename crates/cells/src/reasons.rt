@@ -8,7 +8,7 @@ ghost use Rattle.cells.specs.Meaning.{tags_of};
 use sets::small::Set32;
 
 /// A set of premises and a set of guesses, each below 32. Reasons with the same members are equal values.
-#[derive(Clone, Copy)]
+#[derive(Clone, Copy, PartialEq, Eq, Debug)]
 pub struct Reasons {
     pub premises: Set32,
     pub guesses: Set32,

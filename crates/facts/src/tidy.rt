@@ -15,6 +15,7 @@ pub fn lowest<K: Kind>(f: K) -> i64
     f.next(BOTTOM).unwrap_or(TOP)
 }
 
+// It mirrors lowest: with a direction to pass, one function would be longer than the two.
 /// The highest number that f allows, or -M where it allows none.
 pub fn highest<K: Kind>(f: K) -> i64
     ensures is { result ≡ high K.model f }

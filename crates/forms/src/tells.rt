@@ -68,6 +68,7 @@ fn always(target: usize, saying: Saying) -> Tell
     }
 }
 
+// By its place, and no list of tells, as a firing takes no heap.
 /// The i-th tell that the form makes, from 0; absent past the last. Its distances are numbers of U where the form's are.
 pub fn tell_at(form: Form, i: usize) -> Option<Tell>
     ensures tell { result ≡ slice_get (tells form) i }

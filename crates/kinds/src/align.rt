@@ -62,6 +62,7 @@ impl Kind for Align {
         self.0?.least_from(n)
     }
 
+    // It mirrors next: with a direction to pass, one function would be longer than the two.
     fn last(self, n: i64) -> Option<i64> {
         self.0?.greatest_to(n)
     }

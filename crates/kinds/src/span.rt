@@ -50,6 +50,7 @@ impl Kind for Span {
         (v <= e.hi).then_some(v)
     }
 
+    // It mirrors next: one function for both would have to be told the direction, and turn each comparison by it.
     fn last(self, n: i64) -> Option<i64> {
         let e = self.0?;
         let v = n.min(e.hi);

@@ -25,6 +25,7 @@ pub const CONSTRAINTS: usize = 512;
 #[derive(Clone, Copy, Debug, PartialEq, Eq)]
 pub struct Unfit;
 
+// By a match: the walk over the cells that a form names stands in forms, above this crate.
 fn is_named_below(form: Form, cells: usize) -> bool
     ensures { result ≡ all_below cells (named form) }
 {

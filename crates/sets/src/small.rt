@@ -96,6 +96,7 @@ impl Set32 {
         (!self.is_empty()).then_some(self.bits.trailing_zeros())
     }
 
+    // It mirrors lowest: with a direction to pass, one function would be longer than the two.
     /// The greatest member, absent exactly without one.
     pub fn highest(self) -> Option<u32>
         ensures { Greatest (holds self) result }

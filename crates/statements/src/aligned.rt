@@ -46,6 +46,7 @@ impl Residue {
         (v <= TOP).then_some(v)
     }
 
+    // It mirrors least_from: one function for both would have to be told the direction, and turn each comparison by it.
     /// The greatest number of U from n down that leaves this rest.
     pub fn greatest_to(self, n: i64) -> Option<i64>
         ensures { GreatestTo (aligned self) n result }

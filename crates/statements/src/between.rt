@@ -28,6 +28,7 @@ impl Between {
         (v <= lowered(self.hi)).then_some(v)
     }
 
+    // It mirrors least_from: one function for both would have to be told the direction, and turn each comparison by it.
     /// The greatest of them from n down.
     pub fn greatest_to(self, n: i64) -> Option<i64>
         ensures { GreatestTo (between self.lo self.hi) n result }

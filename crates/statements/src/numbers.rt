@@ -22,6 +22,7 @@ pub fn raised(lo: i64) -> i64
     lo.max(BOTTOM)
 }
 
+// It mirrors raised: with a direction to pass, one function would be longer than the two.
 /// An upper end, lowered to at most M.
 pub fn lowered(hi: i64) -> i64
     ensures { result ≡ lowered hi }

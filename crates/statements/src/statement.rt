@@ -36,6 +36,7 @@ impl Statement {
         }
     }
 
+    // It mirrors least_from: with a direction to pass, one function would be longer than the two.
     /// The greatest number that it allows from n down, absent where there is none.
     pub fn greatest_to(self, n: i64) -> Option<i64>
         ensures { GreatestTo (allowed self) n result }
@@ -54,6 +55,7 @@ impl Statement {
         self.least_from(BOTTOM).unwrap_or(TOP)
     }
 
+    // It mirrors lowest: with a direction to pass, one function would be longer than the two.
     /// The highest number that it allows, or -M where it allows none.
     pub fn highest(self) -> i64
         ensures is { result ≡ highest (allowed self) }

@@ -17,6 +17,7 @@ mod class;
 
 pub use class::{CLASS, class_of};
 
+// Of a type of its own, as a word stands on no other crate.
 /// The largest number that a word may be.
 pub const TOP: u64 = 4_294_967_295;
 
@@ -133,6 +134,7 @@ fn number(digits: &[u8]) -> Option<u32>
     Some(value)
 }
 
+// A function, and no TryFrom: that most words are no keywords is no error.
 /// The reserved word that some bytes spell, if any.
 pub fn keyword_of(word: &[u8]) -> Option<Keyword>
     ensures { result ≡ keyword_of word.now }
@@ -149,6 +151,7 @@ pub fn keyword_of(word: &[u8]) -> Option<Keyword>
 }
 
 // The symbol of one byte, of those that have one.
+// A function, and no From, as it is right only for the bytes that have a symbol.
 fn symbol_of(b: u8) -> Symbol
     ensures { result ≡ symbol_of b }
 {
@@ -224,6 +227,7 @@ pub fn words<'a>(heap: Global, line: &'a [u8]) -> Result<Vec<Placed<'a>>, ReadEr
     let mut out = Vec::new(heap);
     let mut rest = line;
     let mut column = 1;
+    // The column is counted with the rest, since each word takes as many bytes as it has.
     while let [_, after @ ..] = rest {
         match begins(rest) {
             Front::Space => {
