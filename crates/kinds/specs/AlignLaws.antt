@@ -1,6 +1,6 @@
 -- Align is a lawful kind.
 use Rattle.std.specs.Prelude.{◌≡◌, ℕ, suc, ◌+◌, ◌-◌, ◌*◌, ◌%◌, ◌^◌, ◌<◌, ◌≤◌, true, false, ◌&&◌, ◌≢◌, ℤ, pos, ◌≤ℤ◌, ◌<ℤ◌, ◌==◌, int_le, nat_le, Some, None, Option, refl}
-use Rattle.std.proofs.Common.{Decides, sym, subst, subst₂, ap, ◌∙◌, mod-eq_of_lt, arith, pow_mono, pow_pos}
+use Rattle.std.proofs.Common.{Decides, sym, subst, subst₂, ap, ap₂, ◌∙◌, mod-eq_of_lt, arith, pow_mono, pow_pos}
 use Rattle.std.specs.Cmp.{both_ways}
 use mathlib.Core.HLevel.{is_prop→PathP}
 use Rattle.std.proofs.Math.Bridge.{le_prop}
@@ -174,6 +174,10 @@ align_empty lo hi h f =
     let p = lowest_none a w h in
     let q = highest_none a w h in
     subst (λ x. align_meet x f ≡ x) (sym (spanning_none (lowest a) (highest a) (omega (arith, ints)))) refl
+
+-- A Between states what its lowest and highest give.
+pub stated_by_ends : (s : Statement) (lo hi x y : ℤ) → s ≡ Between lo hi → x ≡ lowest (allowed s) → y ≡ highest (allowed s) → spanning x y ≡ align_stated s
+stated_by_ends s lo hi x y e p q = ap₂ spanning p q ∙ subst (λ t. spanning (lowest (allowed t)) (highest (allowed t)) ≡ align_stated t) (sym e) refl
 
 -- ---- equality and size
 
