@@ -1,25 +1,31 @@
--- The longest reserved word is spelled by its seven bytes.
-use Rattle.std.proofs.Common.{◌≡◌, ℕ, List, [], ◌∷◌, length, get_or, codes, Some, sym, refl, ap, ◌∙◌, arith}
-use Rattle.words.specs.declared.Keyword.TheVariants.{Premise}
+-- The longer reserved words, by their bytes.
+use Rattle.std.proofs.Common.{◌≡◌, ℕ, suc, List, [], ◌∷◌, length, get_or, codes, sym, refl, ap, arith}
 use Rattle.words.specs.Keywords.{keyword_of}
 use Rattle.words.proofs.keyword_of.Goals as goal
 
-seven : (w : List ℕ) → length w ≡ 7 → w ≡ get_or w 0 0 ∷ get_or w 1 0 ∷ get_or w 2 0 ∷ get_or w 3 0 ∷ get_or w 4 0 ∷ get_or w 5 0 ∷ get_or w 6 0 ∷ []
-seven [] h = absurd (omega arith)
-seven (a ∷ []) h = absurd (omega arith)
-seven (a ∷ b ∷ []) h = absurd (omega arith)
-seven (a ∷ b ∷ c ∷ []) h = absurd (omega arith)
-seven (a ∷ b ∷ c ∷ d ∷ []) h = absurd (omega arith)
-seven (a ∷ b ∷ c ∷ d ∷ e ∷ []) h = absurd (omega arith)
-seven (a ∷ b ∷ c ∷ d ∷ e ∷ f ∷ []) h = absurd (omega arith)
-seven (a ∷ b ∷ c ∷ d ∷ e ∷ f ∷ g ∷ []) h = refl
-seven (a ∷ b ∷ c ∷ d ∷ e ∷ f ∷ g ∷ x ∷ w) h = absurd (omega arith)
+-- from place i on, the bytes of w are those of v
+abbrev Spells : List ℕ → ℕ → List ℕ → Type 0
+Spells w i [] = Unit {0}
+Spells w i (b ∷ v) = (get_or w i 0 ≡ b) × Spells w (suc i) v
 
-premise_spelled : (w : List ℕ) → length w ≡ 7 → get_or w 0 0 ≡ 112 → get_or w 1 0 ≡ 114 → get_or w 2 0 ≡ 101 → get_or w 3 0 ≡ 109 → get_or w 4 0 ≡ 105 → get_or w 5 0 ≡ 115 → get_or w 6 0 ≡ 101 → Some Premise ≡ keyword_of w
-premise_spelled w n a b c d e f g =
-    let spelled : w ≡ codes "premise" = seven w n ∙ (λ i. a i ∷ b i ∷ c i ∷ d i ∷ e i ∷ f i ∷ g i ∷ []) in
-    ap keyword_of (sym spelled)
+later : (a : ℕ) (w : List ℕ) (i : ℕ) (v : List ℕ) → Spells (a ∷ w) (suc i) v → Spells w i v
+later a w i [] h = tt
+later a w i (b ∷ v) h = (h.0, later a w (suc i) v h.1)
+
+spelled : (w v : List ℕ) → length w ≡ length v → Spells w 0 v → w ≡ v
+spelled [] [] n h = refl
+spelled [] (b ∷ v) n h = absurd (omega arith)
+spelled (a ∷ w) [] n h = absurd (omega arith)
+spelled (a ∷ w) (b ∷ v) n h = λ i. h.0 i ∷ spelled w v (omega arith) (later a w 0 v h.1) i
 
 pub returns-in-premise : goal.returns-in-premise
 returns-in-premise c =
-    premise_spelled c.args.word.now (omega arith) (omega arith) (omega arith) (omega arith) (omega arith) (omega arith) (omega arith) (omega arith)
+    ap keyword_of (sym (spelled c.args.word.now (codes "premise") (omega arith) (omega arith, (omega arith, (omega arith, (omega arith, (omega arith, (omega arith, (omega arith, tt)))))))))
+
+pub returns-in-align : goal.returns-in-align
+returns-in-align c =
+    ap keyword_of (sym (spelled c.args.word.now (codes "align") (omega arith) (omega arith, (omega arith, (omega arith, (omega arith, (omega arith, tt)))))))
+
+pub returns-in-apart : goal.returns-in-apart
+returns-in-apart c =
+    ap keyword_of (sym (spelled c.args.word.now (codes "apart") (omega arith) (omega arith, (omega arith, (omega arith, (omega arith, (omega arith, tt)))))))
