@@ -20,6 +20,7 @@ impl Span {
     {
         let lo = raised(lo);
         let hi = lowered(hi);
+        // No `then`: its closure would have to require the test again, as ends out of order may not be made.
         if lo <= hi {
             Span(Some(Ends { lo, hi }))
         } else {
