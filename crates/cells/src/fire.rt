@@ -15,9 +15,10 @@ use crate::changed::Changed;
 use crate::reasons::Reasons;
 use crate::tell::{make, tell};
 use facts::kind::Kind;
-use forms::tells::{named, tells};
+use forms::tells::tells;
 use plan::constraint::{Constraint, Form};
-use plan::plans::is_known;
+use plan::named::named;
+use plan::plans::{PREMISES, is_known};
 use statements::numbers::{BOTTOM, TOP};
 use statements::statement::Statement;
 
@@ -26,7 +27,7 @@ use statements::statement::Statement;
 pub fn can_fire(k: Constraint, n: usize) -> bool
     ensures { result ≡ known n 32 k }
 {
-    is_known(k, n, 32)
+    is_known(k, n, PREMISES)
 }
 
 // Whether cell x is in conflict.

@@ -59,6 +59,7 @@ impl<A: Kind, B: Kind> Kind for Both<A, B> {
         }
     }
 
+    // Part by part and no derive: whether two facts are equal is for their kind to say, and `==` need not say it.
     fn same(self, other: Both<A, B>) -> bool {
         self.first.same(other.first) && self.second.same(other.second)
     }

@@ -8,7 +8,7 @@ use crate::kind::Kind;
 
 /// A kind whose Between allows exactly lo to hi.
 pub trait ExactKind: Kind {
-    // The fact that allows exactly lo to hi, within U.
+    /// The fact that allows exactly lo to hi, within U.
     fn exactly(lo: i64, hi: i64) -> Self
         ensures is { result ≡ Self.Kind.model.stated (Between lo hi) }
         ensures allows { (n : ℤ) → Self.Kind.model.allows result n ≡ between lo hi n };

@@ -54,6 +54,7 @@ pub fn narrow<K: Kind>(facts: &mut [K], s: Statement) -> usize
 {
     let g = K::state(s);
     let mut changed = 0;
+    // Counted beside the writing: a filter that counts would have to write as it looks.
     for f in facts.iter_mut() {
         let before = *f;
         let after = told(before, g);

@@ -71,7 +71,11 @@ impl Problem {
         match self {
             Problem::Byte | Problem::LargeNumber | Problem::LongName => Layer::Reader,
             Problem::Word | Problem::Nesting => Layer::Grammar,
-            _ => Layer::Sheet,
+            Problem::LongText
+            | Problem::Unknown
+            | Problem::Twice
+            | Problem::Full
+            | Problem::Range => Layer::Sheet,
         }
     }
 }

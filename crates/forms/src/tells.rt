@@ -1,4 +1,4 @@
-// The cells that a form names and the tells that it makes, one after the other.
+// The tells that a form makes, one after the other.
 ghost use Rattle.std.specs.Prelude.{◌≡◌, ℕ, true, List, drop};
 ghost use Rattle.std.specs.List.{slice_get};
 ghost use Rattle.std.specs.Iterator.{YieldsFirst, item_count};
@@ -12,51 +12,6 @@ use crate::tell::{Condition, Saying, Tell};
 use plan::constraint::Form;
 use std::marker::Model;
 
-/// The i-th cell that the form names, from 0; absent past the last.
-pub fn named_at(form: Form, i: usize) -> Option<usize>
-    ensures { result ≡ slice_get (named form) i }
-{
-    match form {
-        Form::State(c, _) => [c].get(i).copied(),
-        Form::Sum(a, b, c) => [a, b, c].get(i).copied(),
-        Form::Gap(a, _, b) | Form::Apart(a, _, b, _) => [a, b].get(i).copied(),
-    }
-}
-
-/// The cells that a form names, one after the other; seen as the list of those that are still to come.
-#[derive(Drop)]
-pub struct NamedCells {
-    form: Form,
-    next: usize,
-}
-
-impl Model for NamedCells {
-    ghost Value = { List ℕ };
-
-    ghost view = { λ w. drop w.next (named w.form) };
-}
-
-/// The cells that the form names, in their order.
-pub fn named(form: Form) -> NamedCells
-    ensures { result ≡ named form }
-{
-    NamedCells { form, next: 0 }
-}
-
-impl Iterator for NamedCells {
-    type Item = usize;
-
-    ghost next_gives = { YieldsFirst (λ rest. rest) };
-
-    ghost remaining = { item_count (λ rest. rest) };
-
-    fn next(&mut self) -> Option<usize> {
-        let cell = named_at(self.form, self.next)?;
-        self.next += 1;
-        Some(cell)
-    }
-}
-
 // A tell that is made whatever the cells are.
 fn always(target: usize, saying: Saying) -> Tell
     ensures { result ≡ record { target = target; condition = Always; saying = saying } }
@@ -68,61 +23,58 @@ fn always(target: usize, saying: Saying) -> Tell
     }
 }
 
-// By its place, and no list of tells, as a firing takes no heap.
 /// The i-th tell that the form makes, from 0; absent past the last. Its distances are numbers of U where the form's are.
 pub fn tell_at(form: Form, i: usize) -> Option<Tell>
     ensures tell { result ≡ slice_get (tells form) i }
     ensures near { ranged form ≡ true → Near result }
 {
     match form {
-        Form::State(c, s) => match i {
-            0 => Some(always(c, Saying::Stated(s))),
-            1 => Some(always(c, Saying::Cut(c, s))),
-            _ => None,
-        },
-        Form::Sum(a, b, c) => match i {
-            0 => Some(always(c, Saying::Plus(a, b))),
-            1 => Some(always(a, Saying::Minus(c, b))),
-            2 => Some(always(b, Saying::Minus(c, a))),
-            _ => None,
-        },
-        Form::Gap(a, d, b) => match i {
-            0 => Some(always(b, Saying::From(a, d))),
-            1 => Some(always(a, Saying::UpTo(b, d))),
-            _ => None,
-        },
+        Form::State(c, s) => [always(c, Saying::Stated(s)), always(c, Saying::Cut(c, s))]
+            .get(i)
+            .copied(),
+        Form::Sum(a, b, c) => [
+            always(c, Saying::Plus(a, b)),
+            always(a, Saying::Minus(c, b)),
+            always(b, Saying::Minus(c, a)),
+        ]
+        .get(i)
+        .copied(),
+        Form::Gap(a, d, b) => [always(b, Saying::From(a, d)), always(a, Saying::UpTo(b, d))]
+            .get(i)
+            .copied(),
         Form::Apart(a, d, b, e) => {
             let d = i64::from(d);
             let e = i64::from(e);
-            match i {
-                0 => Some(Tell {
+            [
+                Tell {
                     target: a,
                     condition: Condition::Above(a, d, b),
                     saying: Saying::From(b, e),
-                }),
-                1 => Some(Tell {
+                },
+                Tell {
                     target: b,
                     condition: Condition::Above(a, d, b),
                     saying: Saying::UpTo(a, e),
-                }),
-                2 => Some(Tell {
+                },
+                Tell {
                     target: b,
                     condition: Condition::Above(b, e, a),
                     saying: Saying::From(a, d),
-                }),
-                3 => Some(Tell {
+                },
+                Tell {
                     target: a,
                     condition: Condition::Above(b, e, a),
                     saying: Saying::UpTo(b, d),
-                }),
-                _ => None,
-            }
+                },
+            ]
+            .get(i)
+            .copied()
         }
     }
 }
 
-// Not one generic iterator with NamedCells: they differ in the function that looks up, and no signature can name the type
-// of an iterator over a function.
+// Beside NamedCells of plan: one iterator for both would need a trait for what a form lists, with a ghost list, and a
+// marker in its struct.
 /// The tells that a form makes, one after the other; seen as the list of those that are still to come.
 #[derive(Drop)]
 pub struct FormTells {

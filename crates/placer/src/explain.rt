@@ -4,7 +4,7 @@ use crate::known::{Counts, Declaration, Faulty, Sort, words_of};
 use crate::source::{Shown, line_of, word_at};
 use faults::Problem;
 use plan::plans::{CELLS, CONSTRAINTS, PREMISES};
-use sheet::FINEST;
+use sheet::{DEEPEST, FINEST};
 use sheet::sheets::LONGEST;
 use std::alloc::{AllocError, Global};
 use words::{LONGEST as LONGEST_NAME, Placed, Symbol, TOP, Token};
@@ -158,7 +158,7 @@ impl Faulty<'_> {
                     "the name `{shown}` has {len} bytes; a name has at most {LONGEST_NAME}"
                 )
             }
-            Problem::Nesting => String::from_str(heap, "parentheses nest more than 16 deep"),
+            Problem::Nesting => format!(in heap; "parentheses nest more than {DEEPEST} deep"),
             Problem::Unknown => self.unknown_words(word, wanted_sort(found, column)),
             Problem::Twice => self.twice_words(word),
             Problem::Full => full_words(heap, self.made_up_to(found)),

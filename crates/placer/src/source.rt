@@ -1,7 +1,7 @@
 // The lines and words of a text, as a message shows them.
 use plan::texts::Texts;
 use std::fmt;
-use words::{class_of, run_len};
+use words::{DIGIT, LETTER, class_of, run_len};
 
 /// A sheet: the file that it stands in, and its text.
 #[derive(Clone, Copy)]
@@ -75,7 +75,7 @@ fn word_len(bytes: &[u8]) -> usize {
         [] => 0,
         [b'<', b'=', ..] => 2,
         [first, ..] => match class_of(*first) {
-            class @ 1..=2 => run_len(bytes, class),
+            class @ (LETTER | DIGIT) => run_len(bytes, class),
             _ => 1,
         },
     }

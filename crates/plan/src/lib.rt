@@ -3,6 +3,7 @@
 
 pub mod constraint;
 pub mod draft;
+pub mod named;
 pub mod names;
 pub mod place;
 pub mod plan;

@@ -7,6 +7,7 @@ ghost use Rattle.plan.specs.Items.{nothing, planned, drafted, few, fits, filled}
 
 use crate::constraint::{Constraint, Form};
 use crate::draft::Draft;
+use crate::named::named;
 use crate::place::Place;
 use crate::plan::Plan;
 use statements::numbers::is_number;
@@ -25,15 +26,10 @@ pub const CONSTRAINTS: usize = 512;
 #[derive(Clone, Copy, Debug, PartialEq, Eq)]
 pub struct Unfit;
 
-// By a match: the walk over the cells that a form names stands in forms, above this crate.
 fn is_named_below(form: Form, cells: usize) -> bool
     ensures { result ≡ all_below cells (named form) }
 {
-    match form {
-        Form::State(c, _) => c < cells,
-        Form::Sum(a, b, c) => a < cells && b < cells && c < cells,
-        Form::Gap(a, _, b) | Form::Apart(a, _, b, _) => a < cells && b < cells,
-    }
+    named(form).all(|c| c < cells)
 }
 
 fn is_ranged(form: Form) -> bool

@@ -1,4 +1,4 @@
-// Sets of small numbers as bit sets: below 32 in one word, below 512 in eight.
+// Sets of small numbers: below 32 as the bits of one word, below 512 as sixteen of those.
 #![tactic(auto)]
 
 pub mod small;

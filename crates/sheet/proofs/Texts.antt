@@ -57,7 +57,7 @@ unfolding line_read
 words-read s p bytes ws is = ap (worded p.texts s.text s.offset (length bytes) p.items) is
 
 -- a grammar's fault
-pub stop_read : (r : Stop) (s : Start) (p e : Progress) (bytes : List ℕ) (ws : List Placed) → words_of bytes ≡ Ok (map spot ws) → Ends r (parse_line limit (spots ws)) → LineReads (Err (stopped (length bytes + 1) r)) s p bytes e
+pub stop_read : (r : Stop) (s : Start) (p e : Progress) (bytes : List ℕ) (ws : List Placed) → words_of bytes ≡ Ok (map spot ws) → Ends r (parse_line limit (spots ws)) → LineReads (Err (stopped (length bytes) r)) s p bytes e
 stop_read stop.Memory s p e bytes ws is ends = tt
 stop_read (stop.Word c) s p e bytes ws is ends = words-read s p bytes ws is ∙ ap (parsed p.texts s.text s.offset (length bytes) p.items) ends
 stop_read (stop.Deep c) s p e bytes ws is ends = words-read s p bytes ws is ∙ ap (parsed p.texts s.text s.offset (length bytes) p.items) ends

@@ -3,8 +3,8 @@ use Rattle.std.specs.Prelude.{◌≡◌, ℕ, List, None, Ok, Err, Result}
 use Rattle.words.specs.declared.ReadError.{ReadError as Unread}
 use Rattle.words.specs.declared.ReadError.TheVariants as unread
 use Rattle.faults.specs.declared.Fault.{Fault}
-use Rattle.faults.specs.declared.Problem.TheVariants as problem
 use Rattle.grammar.specs.Tree.{Line}
+use Rattle.grammar.specs.Parse.{wrong, deeper, short}
 use Rattle.plan.specs.declared.draft.Draft.{Draft}
 use Rattle.plan.specs.Items.{Items, nothing, drafted}
 use Rattle.plan.specs.Names.{Texts}
@@ -17,19 +17,19 @@ use Rattle.sheet.specs.declared.sheets.ReadError.TheVariants as error
 use Rattle.sheet.specs.declared.sheets.Trouble.{Trouble}
 use Rattle.sheet.specs.declared.sheets.Trouble.TheVariants as trouble
 use Rattle.sheet.specs.Progress.{Progress}
-use Rattle.sheet.specs.Sheets.{slip_problem, checked, line_read, lines_read, lines_of}
+use Rattle.sheet.specs.Sheets.{slip_problem, refusal_found, checked, line_read, lines_read, lines_of}
 
 -- a line whose words cannot be read
 abbrev pub unworded : Unread → Trouble
 unworded unread.Memory = trouble.Memory
 unworded (unread.Fault s c) = trouble.Found (record { problem = slip_problem s; column = c })
 
--- a line that stops so, by the column just past its end
+-- what a line of n bytes that stops so is faulty for
 abbrev pub stopped : ℕ → Stop → Trouble
-stopped k stop.Memory = trouble.Memory
-stopped k (stop.Word c) = trouble.Found (record { problem = problem.Word; column = c })
-stopped k (stop.Deep c) = trouble.Found (record { problem = problem.Nesting; column = c })
-stopped k stop.Short = trouble.Found (record { problem = problem.Word; column = k })
+stopped n stop.Memory = trouble.Memory
+stopped n (stop.Word c) = trouble.Found (refusal_found n (wrong c))
+stopped n (stop.Deep c) = trouble.Found (refusal_found n (deeper c))
+stopped n stop.Short = trouble.Found (refusal_found n short)
 
 -- trouble in line k of text t
 abbrev pub fault_at : ℕ → ℕ → Trouble → ReadError

@@ -16,7 +16,8 @@ use words::{Keyword, Placed, Symbol, Token};
 pub const FINEST: u32 = 24;
 
 impl<'a> Reading<'a> {
-    // `N in LO to HI`, after `in`.
+    // `N in LO to HI`, after `in`. Owner, name and words come together to three forms, and part at once: a struct of them
+    // would be made only to be taken apart.
     fn within(
         &mut self,
         owner: Option<usize>,

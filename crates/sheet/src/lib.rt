@@ -8,4 +8,5 @@ mod next;
 pub mod reading;
 pub mod sheets;
 
+pub use expression::DEEPEST;
 pub use forms::FINEST;

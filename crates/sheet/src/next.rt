@@ -49,13 +49,11 @@ pub(crate) fn expect<'w, 'a>(
 ) -> Result<&'w [Placed<'a>], Stop>
     ensures { SymbolTells symbol result words.now }
 {
-    match after(words, symbol) {
-        Some(rest) => Ok(rest),
-        None => Err(stop_at(words)),
-    }
+    after(words, symbol).ok_or(stop_at(words))
 }
 
-// A number. Each kind of word has a reader of its own, since each gives something else: a number, a name, or nothing.
+// A number. Each kind of word has a reader of its own: one for all would take what a word gives as a closure, and its
+// clause anew from each caller.
 pub(crate) fn next_number<'w, 'a>(
     words: &'w [Placed<'a>],
 ) -> Result<(Number, &'w [Placed<'a>]), Stop>

@@ -75,6 +75,7 @@ impl<'a> Reading<'a> {
             Some(number) => number,
             None => {
                 self.note(Problem::Unknown, column);
+                // It counts for nothing: a line with a note makes no plan.
                 0
             }
         }

@@ -1,5 +1,5 @@
 // Two texts, read into a plan.
-ghost use Rattle.std.specs.Prelude.{◌≡◌, ◌+◌, ◌≤◌, length, None};
+ghost use Rattle.std.specs.Prelude.{◌≡◌, ℕ, ◌+◌, ◌≤◌, length, None};
 ghost use Rattle.sheet.specs.declared.sheets.ReadError.TheVariants.{Fault as Failed};
 ghost use Rattle.plan.specs.Items.{planned};
 ghost use Rattle.plan.specs.Names.{texts_of};
@@ -20,14 +20,14 @@ use words::{Slip, words};
 pub const LONGEST: usize = 32_768;
 
 /// Why two texts are not read: want of memory, or their first fault.
-#[derive(Clone, Copy)]
+#[derive(Clone, Copy, Debug, PartialEq, Eq)]
 pub enum ReadError {
     Memory,
     Fault(Fault),
 }
 
-// Why a line is not read.
-#[derive(Clone, Copy)]
+/// Why a line is not read.
+#[derive(Clone, Copy, Debug, PartialEq, Eq)]
 pub enum Trouble {
     Memory,
     Found(Found),
@@ -59,9 +59,9 @@ impl From<words::ReadError> for Trouble {
 }
 
 impl Stop {
-    // What a line is faulty for that stops so, by the column just past its end.
+    // What a line is faulty for that stops so, by the column just past its n bytes.
     fn trouble(self, past: usize) -> Trouble
-        ensures { result ≡ stopped past self }
+        ensures { (n : ℕ) → past ≡ n + 1 → result ≡ stopped n self }
     {
         let (problem, column) = match self {
             Stop::Memory => return Trouble::Memory,
@@ -114,6 +114,7 @@ impl<'a> Reading<'a> {
         ensures { LineReads result start (progress self.old) bytes.now (progress self.new) }
     {
         let found = words(heap, bytes)?;
+        // By a match, and no map_err: the proof would have to open the clause of its closure.
         match self.line(start, found.as_slice()) {
             Ok(()) => self.ended(),
             Err(stop) => Err(stop.trouble(bytes.len() + 1)),
@@ -126,12 +127,14 @@ impl<'a> Reading<'a> {
         requires short { length text.now ≤ 32768 }
         ensures { TextReads result number (progress self.old) text.now (progress self.new) }
     {
+        // The offset is counted beside the lines: no iterator of the library gives where a part begins.
         let mut offset = 0;
         for (i, bytes) in text.split(|b| *b == b'\n').enumerate() {
             let start = Start {
                 text: number,
                 offset,
             };
+            // By a test, and no map_err: the proof would have to open the clause of its closure.
             if let Err(trouble) = self.read_line(heap, start, bytes) {
                 return Err(trouble.at(number, i + 1));
             }
@@ -180,6 +183,7 @@ pub fn read<'a>(heap: Global, plan: &mut Plan, texts: Texts<'a>) -> Result<(), R
 {
     match read_both(heap, texts) {
         Ok(draft) => {
+            // It is never refused: a draft is read only as far as a plan may hold it.
             let _ = plan.fill(draft);
             Ok(())
         }

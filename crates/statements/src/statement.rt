@@ -11,6 +11,7 @@ use crate::residue::Residue;
 /// What can be said of a number of U.
 #[derive(Clone, Copy, PartialEq, Eq, Debug)]
 pub enum Statement {
+    // Its ends, and no struct of them, as sheets, kinds and cells write them.
     Between(i64, i64),
     Aligned(Residue),
 }

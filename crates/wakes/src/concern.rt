@@ -6,8 +6,8 @@ ghost use Rattle.plan.specs.Placements.{owned_by};
 ghost use Rattle.telling.specs.Tables.{any};
 ghost use Rattle.calls.specs.Networks.{in_force};
 
-use forms::tells::named;
 use plan::constraint::{Constraint, Form};
+use plan::named::named;
 use sets::small::Set32;
 
 /// Whether a form names a cell.

@@ -41,9 +41,6 @@ impl Index {
     pub fn part(&self, cell: usize) -> &[u16]
         ensures { result.now ≡ listed (naming (constraints_in self.now) cell) (length (constraints_in self.now)) }
     {
-        match self.parts.get(cell) {
-            Some(part) => part,
-            None => &[],
-        }
+        self.parts.get(cell).map_or(&[], |part| part.as_slice())
     }
 }

@@ -17,6 +17,21 @@ pub const CLASS: [u8; 256] = [
     0, 0, 0, 0, 0, 0, 0, 0, 0, 0, 0, 0, 0, 0, 0, 0, 0, 0, 0, 0, 0, 0, 0, 0, 0, 0, 0, 0, 0, 0, 0, 0,
 ];
 
+/// The class of letters, `_` and `.`.
+pub const LETTER: u8 = 1;
+
+/// The class of digits.
+pub const DIGIT: u8 = 2;
+
+/// The class of the space.
+pub const SPACE: u8 = 3;
+
+/// The class of the byte that ends a line.
+pub const END: u8 = 4;
+
+/// The class of the bytes of symbols.
+pub const SYMBOL: u8 = 5;
+
 /// The class of a byte.
 pub fn class_of(b: u8) -> u8
     ensures { result ≡ class_of b }

@@ -15,9 +15,9 @@ use std::alloc::{AllocFailed, Global};
 
 mod class;
 
-pub use class::{CLASS, class_of};
+pub use class::{CLASS, DIGIT, END, LETTER, SPACE, SYMBOL, class_of};
 
-// Of a type of its own, as a word stands on no other crate.
+// The type is that of a sum of digits, and the number its own: words stand on no other crate.
 /// The largest number that a word may be.
 pub const TOP: u64 = 4_294_967_295;
 
@@ -97,14 +97,14 @@ impl<T: Drop> From<AllocFailed<T>> for ReadError {
     }
 }
 
-// Whether a byte's class is from `least` to 2.
+// Whether a byte may go on a word: a letter or a digit, or from `DIGIT` on a digit alone.
 fn is_solid(b: u8, least: u8) -> bool
     ensures { result ≡ solid least b }
 {
-    (least..=2).contains(&class_of(b))
+    (least..=DIGIT).contains(&class_of(b))
 }
 
-/// How many bytes at the front have a class from `least` to 2.
+/// How many bytes at the front have a class from `least` to that of digits.
 pub fn run_len(s: &[u8], least: u8) -> usize
     ensures { result ≡ prefix_len (solid least) s.now }
 {
@@ -116,7 +116,7 @@ fn begins_with_letter(s: &[u8]) -> bool
     ensures { result ≡ is_class 1 (slice_index s.now 0) }
 {
     match s {
-        [first, ..] => class_of(*first) == 1,
+        [first, ..] => class_of(*first) == LETTER,
         [] => false,
     }
 }
@@ -168,7 +168,7 @@ fn symbol_of(b: u8) -> Symbol
 fn name_front<'a>(rest: &'a [u8]) -> Front<'a>
     ensures { meant_front result ≡ name_at (take_while (solid 1) rest.now) }
 {
-    let n = run_len(rest, 1);
+    let n = run_len(rest, LETTER);
     if n > LONGEST {
         return Front::Bad(Slip::Long, 0);
     }
@@ -183,7 +183,7 @@ fn name_front<'a>(rest: &'a [u8]) -> Front<'a>
 fn number_front<'a>(rest: &'a [u8]) -> Front<'a>
     ensures { meant_front result ≡ number_at (take_while (solid 2) rest.now) rest.now }
 {
-    let n = run_len(rest, 2);
+    let n = run_len(rest, DIGIT);
     let Some(value) = number(&rest[..n]) else {
         return Front::Bad(Slip::Large, 0);
     };
@@ -211,10 +211,10 @@ fn begins<'a>(rest: &'a [u8]) -> Front<'a>
 {
     let first = rest[0];
     match class_of(first) {
-        1 => name_front(rest),
-        2 => number_front(rest),
-        3 | 4 => Front::Space,
-        5 => symbol_front(first, &rest[1..]),
+        LETTER => name_front(rest),
+        DIGIT => number_front(rest),
+        SPACE | END => Front::Space,
+        SYMBOL => symbol_front(first, &rest[1..]),
         _ => Front::Bad(Slip::Byte, 0),
     }
 }

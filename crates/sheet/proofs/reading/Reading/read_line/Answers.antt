@@ -1,4 +1,4 @@
-use Rattle.std.proofs.Common.{map, Ok, sym, ap, ◌∙◌, arith}
+use Rattle.std.proofs.Common.{map, length, Ok, sym, ap, ◌∙◌, arith}
 use Rattle.std.proofs.lemmas.Result.{err_from_is_err_and}
 use Rattle.words.specs.Words.{spot}
 use Rattle.sheet.specs.Progress.{progress}
@@ -20,4 +20,4 @@ returns-in-Ok c =
 
 pub returns : goal.returns
 returns c =
-    rw c.trouble.ensures (stop_read c.in-Err.stop c.args.start (progress c.args.self.now) (progress c.line.new.self) c.args.bytes.now c.as_slice.result.now (c.in_ok-found.ensures ∙ ap (λ v. Ok (map spot v)) (sym c.as_slice.ensures.value)) c.in-Err.ensures)
+    rw (c.trouble.ensures (length c.args.bytes.now) (omega (arith, c.requires.inside))) (stop_read c.in-Err.stop c.args.start (progress c.args.self.now) (progress c.line.new.self) c.args.bytes.now c.as_slice.result.now (c.in_ok-found.ensures ∙ ap (λ v. Ok (map spot v)) (sym c.as_slice.ensures.value)) c.in-Err.ensures)
