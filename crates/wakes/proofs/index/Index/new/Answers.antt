@@ -1,5 +1,5 @@
 -- What holds of the index of a plan: the parts are those of its cells, and no constraint names another.
-use Rattle.std.proofs.Common.{◌≡◌, ℕ, ◌≤◌, List, length, map, vec_items, vec_len, sym, ap, ◌∙◌, subst, arith}
+use Rattle.std.proofs.Common.{◌≡◌, ℕ, ◌≤◌, List, length, map, vec_items, vec_len, sym, ap, ◌∙◌, subst, arith, rules}
 use Rattle.std.proofs.lemmas.List.{length-map}
 use Rattle.std.proofs.lemmas.List.FromFn.{length-map-range_with_len}
 use Rattle.std.specs.List.{range_with_len}
@@ -15,7 +15,7 @@ invariant_of-result c =
     let plan = c.args.plan.now in
     let items = planned plan in
     let cells = c.cell_count.result in
-    let same : vec_items c.in_ok-constraints.constraints ≡ items.constraints = c.in_ok-constraints.ensures.items ∙ c.constraints.ensures in
+    let same : vec_items c.in_ok-constraints.constraints ≡ items.constraints = search rules in
     let lists = subst (λ (ks : List Constraint). map vec_items (vec_items c.in_ok-parts.parts) ≡ map (λ x. listed (naming ks x) (length ks)) (range_with_len 0 cells)) c.constraints-2.ensures c.in_ok-parts.ensures in
     let count : vec_len plan.draft.cells ≡ cells = omega (arith, c.cell_count.ensures, plan.draft.cells.ok.0) in
     let outside : (x : ℕ) → cells ≤ x → Nobody (naming items.constraints x) = λ x l. naming_none (vec_len plan.draft.cells) (vec_len plan.draft.premises) x items.constraints (omega (arith, count)) plan.known in
