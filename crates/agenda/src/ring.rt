@@ -70,7 +70,7 @@ impl Ring {
         ensures order { from_oldest self.old ≡ option_to_list result ++ from_oldest self.new }
     {
         self.len = self.len.checked_sub(1)?;
-        let k = usize::from(self.items[self.head]);
+        let k = self.items[self.head] as usize;
         self.head = (self.head + 1) % 512;
         self.members.remove(k);
         Some(k)
@@ -82,7 +82,7 @@ impl Ring {
         ensures order { from_oldest self.old ≡ from_oldest self.new ++ option_to_list result }
     {
         self.len = self.len.checked_sub(1)?;
-        let k = usize::from(self.items[(self.head + self.len) % 512]);
+        let k = self.items[(self.head + self.len) % 512] as usize;
         self.members.remove(k);
         Some(k)
     }

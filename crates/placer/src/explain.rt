@@ -4,8 +4,8 @@ use crate::known::{Counts, Declaration, Faulty, Sort, words_of};
 use crate::source::{Shown, line_of, word_at};
 use faults::Problem;
 use plan::plans::{CELLS, CONSTRAINTS, PREMISES};
-use sheet::{DEEPEST, FINEST};
 use sheet::sheets::LONGEST;
+use sheet::{DEEPEST, FINEST};
 use std::alloc::{AllocError, Global};
 use words::{LONGEST as LONGEST_NAME, Placed, Symbol, TOP, Token};
 
