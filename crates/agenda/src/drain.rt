@@ -11,7 +11,7 @@ pub fn drain<A: Agenda>(agenda: &mut A) -> usize
 {
     // Counted by hand: an iterator over what is taken would need a struct, an impl and a law that its calls end, and say no more.
     let mut taken = 0;
-    while agenda.take().is_some() {
+    while let Some(_) = agenda.take() {
         taken += 1;
     }
     taken
