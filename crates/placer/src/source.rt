@@ -18,6 +18,7 @@ pub struct Sheets<'a> {
 }
 
 impl<'a> Sheets<'a> {
+    // By the number that a fault holds.
     /// The chip sheet for 0, the project sheet for 1.
     pub(crate) fn sheet(self, text: usize) -> Sheet<'a> {
         if text == 0 { self.chip } else { self.project }

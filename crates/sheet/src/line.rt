@@ -14,6 +14,7 @@ use words::{Keyword, Placed, Symbol, Token};
 /// Where a line begins: its text, and how many bytes of the text come before it.
 #[derive(Clone, Copy)]
 pub struct Start {
+    // The number that the places and the fault of the line will hold.
     pub text: usize,
     pub offset: usize,
 }
