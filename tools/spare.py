@@ -1,72 +1,89 @@
 #!/usr/bin/env python3
 """Lists the answers that the check finds without them; with --drop takes them out.
 
-Usage: python3 tools/spare.py [--drop] CRATE..
-Works in the crate's folder: sets all Answers.antt aside, checks with holes allowed, and puts them back.
+Usage: python3 tools/spare.py [--drop] [--margin] CRATE..
+Works in the crate's folder: takes all answers out, checks, puts back those that are asked for, and checks again until none is.
+With --margin the search has half its limits, so that an answer is listed only where it is found with room to spare.
 """
 import pathlib, re, subprocess, sys
 
 HEAD = re.compile(r"^pub ([^\s:]+) : goal\.(\S+)\s*$")
 NEEDED = re.compile(r"`([^`]+)` of (proofs/\S+/Answers\.antt) must prove")
 
-def answers(text):
-    """The answers of a file: name, first line, line past the last."""
-    lines = text.split("\n")
-    found = []
-    i = 0
-    while i < len(lines):
-        m = HEAD.match(lines[i])
-        if not m:
-            i += 1
-            continue
-        j = i + 1
-        while j < len(lines) and (lines[j].startswith((" ", "\t")) or lines[j].split(" ")[0] == m.group(1)):
-            j += 1
-        found.append((m.group(2), i, j))
-        i = j
-    return lines, found
 
-def spare(crate, drop):
+def answers(lines):
+    """The answers of a file: the goal, the first line, the line past the last."""
+    found, i = [], 0
+    while i < len(lines):
+        head = HEAD.match(lines[i])
+        j = i + 1
+        if head:
+            while j < len(lines) and (lines[j].startswith(" ") or lines[j].split(" ")[0] == head.group(1)):
+                j += 1
+            found.append((head.group(2), i, j))
+        i = j
+    return found
+
+
+def without(text, goals):
+    """The file without the answers to some goals; None where no answer is left."""
+    lines = text.split("\n")
+    found = answers(lines)
+    if all(goal in goals for goal, _, _ in found):
+        return None
+    for goal, i, j in reversed(found):
+        if goal in goals:
+            while j < len(lines) and lines[j] == "":
+                j += 1
+            del lines[i:j]
+    return "\n".join(lines).rstrip("\n") + "\n"
+
+
+def write(path, text):
+    if text is None:
+        path.unlink(missing_ok=True)
+    else:
+        path.write_text(text)
+
+
+def spare(crate, drop, margin):
     root = pathlib.Path("crates") / crate
-    files = sorted(root.glob("proofs/**/Answers.antt"))
-    if not files:
-        return 0, 0
-    for f in files:
-        f.rename(f.with_suffix(".aside"))
+    texts = {f: f.read_text() for f in sorted(root.glob("proofs/**/Answers.antt"))}
+    out = {f: {goal for goal, _, _ in answers(t.split("\n"))} for f, t in texts.items()}
+    total = sum(map(len, out.values()))
     try:
-        out = subprocess.run(["rt", "check", "--allow-holes"], cwd=root, capture_output=True, text=True)
+        asked = total > 0
+        while asked:
+            for f, t in texts.items():
+                write(f, without(t, out[f]))
+            run = subprocess.run(["rt", "check", "--allow-holes", *margin], cwd=root, capture_output=True, text=True)
+            asked = False
+            for goal, rel in NEEDED.findall(run.stdout + run.stderr):
+                f = root / rel
+                back = {g for g in out.get(f, ()) if goal == g or goal.startswith(g + "-clause-")}
+                if back:
+                    out[f] -= back
+                    asked = True
+            if not asked and "logic=proved" not in run.stdout + run.stderr and "holes=0" not in run.stdout + run.stderr:
+                raise SystemExit(f"{crate}: the check fails, and no answer is asked for")
     finally:
-        for f in files:
-            f.with_suffix(".aside").rename(f)
-    needed = set(NEEDED.findall(out.stdout + out.stderr))
-    total = idle = 0
-    for f in files:
-        lines, found = answers(f.read_text())
-        rel = str(f.relative_to(root))
-        out_of = [a for a in found if (a[0], rel) not in needed]
-        total += len(found)
-        idle += len(out_of)
-        for name, _, _ in out_of:
-            print(f"{crate}: {rel}: {name}")
-        if drop and out_of:
-            if len(out_of) == len(found):
-                f.unlink()
-                continue
-            for _, i, j in reversed(out_of):
-                while j < len(lines) and lines[j] == "":
-                    j += 1
-                del lines[i:j]
-            f.write_text("\n".join(lines).rstrip("\n") + "\n")
-    return total, idle
+        for f, t in texts.items():
+            write(f, without(t, out[f]) if drop else t)
+    for f in texts:
+        for goal in sorted(out[f]):
+            print(f"{crate}: {f.relative_to(root)}: {goal}")
+    return total, sum(map(len, out.values()))
+
 
 def main():
-    drop = "--drop" in sys.argv
+    flags = [a for a in sys.argv[1:] if a.startswith("--")]
     all_of = idle = 0
-    for crate in [a for a in sys.argv[1:] if a != "--drop"]:
-        t, s = spare(crate, drop)
+    for crate in [a for a in sys.argv[1:] if not a.startswith("--")]:
+        t, s = spare(crate, "--drop" in flags, [a for a in flags if a == "--margin"])
         print(f"{crate}: {s} of {t} answers are found without them", flush=True)
         all_of += t
         idle += s
     print(f"{idle} of {all_of} answers are found without them")
+
 
 main()

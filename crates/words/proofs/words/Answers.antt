@@ -1,6 +1,6 @@
 -- Each turn of the reader takes a gap or a word off the line, or ends at its fault.
 use Rattle.std.proofs.Common.{refl, arith}
-use Rattle.words.proofs.Scan.{fits, gap_step, word-step, bad-step, end_step, part-shorter}
+use Rattle.words.proofs.Scan.{fits, word-step, bad-step, end_step, part-shorter}
 use Rattle.words.proofs.words.Goals as goal
 
 pub slice_bounds-rest-count : goal.slice_bounds-rest-count
@@ -19,10 +19,6 @@ pub loop-rest-smaller : goal.loop-rest-smaller
 loop-rest-smaller c =
     let inside = fits _ _ c.in-len1-up.len_at_least c.in-Word.ensures in
     part-shorter c.loop-rest.rest.now c.in-Word.len inside.0 inside.1
-
-pub loop-rest-preserved-in-Space : goal.loop-rest-preserved-in-Space
-loop-rest-preserved-in-Space c =
-    gap_step _ c.in-len1-up.len_at_least c.in-Space.ensures c.loop-rest.invariant
 
 pub loop-rest-preserved : goal.loop-rest-preserved
 loop-rest-preserved c =
