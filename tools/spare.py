@@ -9,6 +9,7 @@ import pathlib, re, subprocess, sys
 
 HEAD = re.compile(r"^pub ([^\s:]+) : goal\.(\S+)\s*$")
 NEEDED = re.compile(r"`([^`]+)` of (proofs/\S+/Answers\.antt) must prove")
+WRONG = re.compile(r"^\./(proofs/\S+/Answers\.antt):\d+:\d+: error", re.M)
 
 
 def answers(lines):
@@ -57,14 +58,16 @@ def spare(crate, drop, margin):
             for f, t in texts.items():
                 write(f, without(t, out[f]))
             run = subprocess.run(["rt", "check", "--allow-holes", *margin], cwd=root, capture_output=True, text=True)
-            asked = False
-            for goal, rel in NEEDED.findall(run.stdout + run.stderr):
-                f = root / rel
-                back = {g for g in out.get(f, ()) if goal == g or goal.startswith(g + "-clause-")}
-                if back:
-                    out[f] -= back
-                    asked = True
-            if not asked and "logic=proved" not in run.stdout + run.stderr and "holes=0" not in run.stdout + run.stderr:
+            said = run.stdout + run.stderr
+            back = {f: set() for f in texts}
+            for goal, rel in NEEDED.findall(said):
+                back[root / rel] = back.get(root / rel, set()) | {g for g in out.get(root / rel, ()) if goal == g or goal.startswith(g + "-clause-")}
+            for rel in WRONG.findall(said):
+                back[root / rel] = out.get(root / rel, set())
+            asked = any(back.get(f) for f in texts)
+            for f in texts:
+                out[f] -= back[f]
+            if not asked and "not proved" in said:
                 raise SystemExit(f"{crate}: the check fails, and no answer is asked for")
     finally:
         for f, t in texts.items():
