@@ -1,6 +1,5 @@
 -- A firing gone through tell by tell.
-use Rattle.std.proofs.Common.{◌≡◌, ℕ, ◌+◌, ◌≤◌, Bool, true, false, ◌||◌, cond, List, [], ◌∷◌, ◌++◌, length, sym, refl, ap, ap₂, ◌∙◌, subst, append_assoc, length-append, arith}
-use Rattle.std.specs.List.{list_any}
+use Rattle.std.proofs.Common.{◌≡◌, ℕ, ◌+◌, ◌≤◌, Bool, true, false, cond, List, [], ◌∷◌, ◌++◌, length, sym, refl, ap, ap₂, ◌∙◌, subst, append_assoc, length-append, arith}
 use Rattle.std.proofs.lemmas.Bool.{cond-true, cond-false}
 use Rattle.std.proofs.lemmas.List.{append-nil}
 use Rattle.facts.specs.Model.{Model}
@@ -14,7 +13,7 @@ use Rattle.forms.specs.Tells.{tells}
 use Rattle.forms.specs.declared.tell.Tell.{Tell}
 use Rattle.sets.specs.Members.{among}
 use Rattle.telling.specs.Reasons.{Reasons, together, premises_only}
-use Rattle.telling.specs.Tables.{Table, facts, reasons_of, any, changed}
+use Rattle.telling.specs.Tables.{Table, facts, reasons_of, changed}
 use Rattle.telling.specs.Telling.{after_told, after_tell}
 use Rattle.telling.specs.Firing.{after_tells, after_dead, after_deads, any_in_conflict, fired, tells_change, deads_change, fired_change}
 use Rattle.telling.proofs.Changes.{tracked_fired}
@@ -22,11 +21,6 @@ use Rattle.cells.specs.declared.cell.Cell.{Cell}
 use Rattle.cells.specs.declared.changed.Changed.{Changed}
 use Rattle.cells.specs.Meaning.{table_of}
 use Rattle.cells.specs.Changes.{changed_cells, Done}
-
-pub any-list : {A : Type 0} (p : A → Bool) (xs : List A) → any p xs ≡ list_any p xs
-unfolding any
-any-list p [] = refl
-any-list p (x ∷ xs) = ap (λ b. p x || b) (any-list p xs)
 
 -- ---- a list gone through from its front
 

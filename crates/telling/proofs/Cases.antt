@@ -1,6 +1,6 @@
 -- Cases on tests, on lists of cells, and on a table with another cell.
-use Rattle.std.proofs.Common.{◌≡◌, ℕ, Bool, true, false, eqb, List, [], ◌∷◌, ◌++◌, sym, refl, subst, ⊎_elim}
-use Rattle.std.specs.List.{AllByRecursion}
+use Rattle.std.proofs.Common.{◌≡◌, ℕ, Bool, true, false, ◌||◌, eqb, List, [], ◌∷◌, ◌++◌, sym, refl, ap, subst, ⊎_elim}
+use Rattle.std.specs.List.{AllByRecursion, list_any}
 use Rattle.std.proofs.lemmas.Bool.{cond_both, cond-true, or_cases, or_parts, or_left, or_right, eq-eqb, eqb-true}
 use Rattle.statements.proofs.Tests.{test_clash}
 use Rattle.sets.specs.Members.{among}
@@ -52,6 +52,12 @@ pub any_clash : {A : Type 0} {X : Type 0} (p : A → Bool) (xs : List A) → All
 unfolding any
 any_clash p [] h e = test_clash e refl
 any_clash p (x ∷ xs) h e = ⊎_elim (λ a. test_clash a h.0) (λ a. any_clash p xs h.1 a) (or_cases (p x) (any p xs) e)
+
+-- Whether some element passes is what the library's test says.
+pub any-list : {A : Type 0} (p : A → Bool) (xs : List A) → any p xs ≡ list_any p xs
+unfolding any
+any-list p [] = refl
+any-list p (x ∷ xs) = ap (λ b. p x || b) (any-list p xs)
 
 -- ---- cells of a list
 

@@ -1,6 +1,6 @@
 -- Which constraints name a cell: what a read tells of it, and that none names a cell that there is not.
 use Rattle.std.proofs.Common.{◌≡◌, ℕ, zero, suc, ◌+◌, ◌<◌, ◌≤◌, Bool, true, false, cond, ◌&&◌, ◌||◌, eqb, ltb, List, [], ◌∷◌, ◌++◌, length, map, get_or, None, Option, sym, refl, ap, ◌∙◌, ⊎_elim, append-nil, arith}
-use Rattle.std.specs.List.{list_any, range_with_len, slice_get}
+use Rattle.std.specs.List.{range_with_len, slice_get}
 use Rattle.std.proofs.lemmas.List.{get_or_past}
 use Rattle.std.proofs.lemmas.List.FromFn.{get_or-map-range_with_len, length-map-range_with_len}
 use Rattle.std.proofs.lemmas.Option.{slice_get_read, slice_get_past}
@@ -12,12 +12,6 @@ use Rattle.plan.specs.Known.{all_below, all_known}
 use Rattle.plan.specs.declared.constraint.Constraint.{Constraint}
 use Rattle.telling.specs.Tables.{any}
 use Rattle.wakes.specs.Naming.{mentions, naming}
-
--- Whether some element passes is what the library's test says.
-pub any-list : {A : Type 0} (p : A → Bool) (xs : List A) → any p xs ≡ list_any p xs
-unfolding any
-any-list p [] = refl
-any-list p (x ∷ xs) = ap (λ b. p x || b) (any-list p xs)
 
 -- A read of a constraint tells whether it names the cell.
 pub naming-read : (ks : List Constraint) (cell i : ℕ) (k : Constraint) → i < length ks → k ≡ get_or ks i k → any (λ x. eqb x cell) (named k.form) ≡ naming ks cell i

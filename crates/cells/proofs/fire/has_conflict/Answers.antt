@@ -4,7 +4,7 @@ use Rattle.std.proofs.lemmas.Iterator.Consumers.{YieldsList-from_first}
 use Rattle.facts.specs.Derived.{none}
 use Rattle.plan.specs.Forms.{named}
 use Rattle.cells.specs.Meaning.{table_of}
-use Rattle.cells.proofs.Firing.{any-list}
+use Rattle.telling.proofs.Cases.{any-list}
 use Rattle.cells.proofs.fire.has_conflict.Goals as goal
 
 pub returns : goal.returns

@@ -3,7 +3,7 @@ use Rattle.std.proofs.Common.{ℕ, eqb, sym, ◌∙◌, rules}
 use Rattle.std.proofs.lemmas.Iterator.Search.{any_from_yields_List}
 use Rattle.std.proofs.lemmas.Iterator.Consumers.{YieldsList-from_first}
 use Rattle.plan.specs.Forms.{named}
-use Rattle.wakes.proofs.Naming.{any-list}
+use Rattle.telling.proofs.Cases.{any-list}
 use Rattle.wakes.proofs.concern.names.Goals as goal
 
 pub returns : goal.returns
