@@ -58,13 +58,24 @@ impl<'a> Texts<'a> {
     {
         self.part(declared.place()?)
     }
+
+    // Whether what was declared has that name. Its place is looked at before its text: most have none, or one of
+    // another length.
+    fn is_named<D: Declared>(self, declared: D, name: &[u8]) -> bool
+        ensures { result ≡ spells (name_at (texts_of self.entry) (D.place declared)) name.now }
+    {
+        match declared.place() {
+            Some(place) if place.len == name.len() => self.part(place) == Some(name),
+            _ => false,
+        }
+    }
 }
 
 /// The number of what was declared under a name, absent where there is none.
 pub fn find<D: Declared>(all: &[D], texts: Texts<'_>, name: &[u8]) -> Option<usize>
     ensures { result ≡ named_by D.place (texts_of texts.entry) all.now name.now }
 {
-    all.iter().position(|d| texts.name(*d) == Some(name))
+    all.iter().position(|d| texts.is_named(*d, name))
 }
 
 fn name_in<'a, D: Declared>(
