@@ -22,7 +22,7 @@ loop-rest-smaller c =
 
 pub loop-rest-preserved : goal.loop-rest-preserved
 loop-rest-preserved c =
-    word-step _ _ _ c.in_ok-push-in-Word.ensures.items c.in-len1-up.len_at_least c.in-Word.ensures refl refl c.loop-rest.invariant
+    word-step _ _ _ c.in_ok-push-in-Word.ensures.items c.in-len1-up.len_at_least c.in-Word.ensures refl (omega arith) c.loop-rest.invariant
 
 pub overflow_add-result : goal.overflow_add-result
 overflow_add-result c =
