@@ -1,4 +1,6 @@
 -- The lemmas on the index.
 mod Naming
+mod Totals
+mod Growing
 mod Waking
 mod Force

@@ -1,4 +1,5 @@
 -- What the contracts of the index cite.
 pub mod Naming
+pub mod Parts
 pub mod Passing
 pub mod Indexes

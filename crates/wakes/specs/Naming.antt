@@ -1,5 +1,5 @@
 -- Which constraints name a cell.
-use Rattle.std.specs.Prelude.{ℕ, Bool, false, List, [], Some, None, Option, map, nat_eq, Vec, vec_items, slice_index_or}
+use Rattle.std.specs.Prelude.{ℕ, Bool, false, List, Some, None, Option, nat_eq}
 use Rattle.std.specs.List.{slice_get}
 use Rattle.sets.specs.Members.{Members}
 use Rattle.plan.specs.Forms.{named}
@@ -14,7 +14,3 @@ mentions cell (Some k) = any (λ x. nat_eq x cell) (named k.form)
 -- The numbers of the constraints that name the cell.
 unfoldable pub naming : List Constraint → ℕ → Members
 naming ks cell j = mentions cell (slice_get ks j)
-
--- The numbers in the part of a cell; a cell that there is not has none.
-abbrev pub part_at : {Z : Type 0} → List (Vec ℕ Z) → ℕ → List ℕ
-part_at parts cell = slice_index_or (map vec_items parts) cell []

@@ -19,8 +19,12 @@ impl Index {
         ensures cells { IfOk result (λ x. cells_in x ≡ length (planned plan.now).cells) }
     {
         let constraints = Vec::from_slice(heap, plan.constraints())?;
-        let parts = parts_of(heap, plan.constraints(), plan.cell_count())?;
-        Ok(Index { constraints, parts })
+        let (parts, numbers) = parts_of(heap, plan.constraints(), plan.cell_count())?;
+        Ok(Index {
+            constraints,
+            parts,
+            numbers,
+        })
     }
 
     /// How many cells there are.
@@ -41,6 +45,10 @@ impl Index {
     pub fn part(&self, cell: usize) -> &[u16]
         ensures { result.now ≡ listed (naming (constraints_in self.now) cell) (length (constraints_in self.now)) }
     {
-        self.parts.get(cell).map_or(&[], |part| part.as_slice())
+        let Some(part) = self.parts.get(cell) else {
+            return &[];
+        };
+        let start = usize::from(part.start);
+        &self.numbers[start..start + usize::from(part.len)]
     }
 }

@@ -4,6 +4,7 @@
 pub mod concern;
 pub mod index;
 pub mod indexes;
+mod part;
 mod parts;
 #[cfg(test)]
 mod tests;

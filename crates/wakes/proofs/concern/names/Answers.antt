@@ -1,13 +1,35 @@
--- The cells that the form names are compared one after the other.
-use Rattle.std.proofs.Common.{ℕ, eqb, sym, ◌∙◌, rules}
-use Rattle.std.proofs.lemmas.Iterator.Search.{any_from_yields_List}
-use Rattle.std.proofs.lemmas.Iterator.Consumers.{YieldsList-from_first}
+-- Each form compares the cell with every cell that it names.
+use Rattle.std.proofs.Common.{◌≡◌, ℕ, Bool, true, false, ◌||◌, [], ◌∷◌, eqb, sym, refl, ap, ◌∙◌}
+use mathlib.Core.Bool.{or-false}
 use Rattle.plan.specs.Forms.{named}
-use Rattle.telling.proofs.Cases.{any-list}
+use Rattle.telling.specs.Tables.{any}
 use Rattle.wakes.proofs.concern.names.Goals as goal
 
-pub returns : goal.returns
-returns c =
-    let is = λ (x : ℕ). eqb x c.args.cell in
-    let cells = named c.args.form in
-    any_from_yields_List is _ _ _ c.any.ensures.ran (YieldsList-from_first (λ x. x) (λ rest. rest) cells c.named.ensures) (λ x b q k. search rules) ∙ sym (any-list is cells)
+module _ (is : ℕ → Bool) where
+  any_one : (a : ℕ) → is a ≡ any is (a ∷ [])
+  unfolding any
+  any_one a = sym (or-false (is a))
+
+  any_two : (a b : ℕ) → (is a || is b) ≡ any is (a ∷ b ∷ [])
+  unfolding any
+  any_two a b = ap (λ r. is a || r) (sym (or-false (is b)))
+
+  any_three : (a b c : ℕ) → (is a || is b || is c) ≡ any is (a ∷ b ∷ c ∷ [])
+  unfolding any
+  any_three a b c = go (is a)
+    where
+      go : (x : Bool) → (x || is b || is c) ≡ (x || any is (b ∷ c ∷ []))
+      go true = refl
+      go false = any_two b c
+
+pub returns-in-State : goal.returns-in-State
+returns-in-State c = any_one (λ x. eqb x c.args.cell) _ ∙ ap (λ f. any (λ x. eqb x c.args.cell) (named f)) (sym c.in-State.is)
+
+pub returns-in-Sum : goal.returns-in-Sum
+returns-in-Sum c = any_three (λ x. eqb x c.args.cell) _ _ _ ∙ ap (λ f. any (λ x. eqb x c.args.cell) (named f)) (sym c.in-Sum.is)
+
+pub returns-in-Gap : goal.returns-in-Gap
+returns-in-Gap c = any_two (λ x. eqb x c.args.cell) _ _ ∙ ap (λ f. any (λ x. eqb x c.args.cell) (named f)) (sym c.in-Gap.is)
+
+pub returns-in-Apart : goal.returns-in-Apart
+returns-in-Apart c = any_two (λ x. eqb x c.args.cell) _ _ ∙ ap (λ f. any (λ x. eqb x c.args.cell) (named f)) (sym c.in-Apart.is)

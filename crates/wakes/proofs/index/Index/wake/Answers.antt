@@ -1,5 +1,5 @@
 -- Each constraint of the part is there, and is put if it is in force.
-use Rattle.std.proofs.Common.{ℕ, ◌+◌, ◌<◌, ◌||◌, eqb, length, take, sym, refl, ap, ◌∙◌, arith}
+use Rattle.std.proofs.Common.{◌≡◌, ℕ, ◌+◌, ◌<◌, ◌||◌, eqb, length, take, Some, sym, refl, ap, ◌∙◌, arith, rules}
 use Rattle.std.specs.List.{slice_get}
 use Rattle.sets.specs.Members.{among}
 use Rattle.sets.specs.Small.{holds}
@@ -28,7 +28,8 @@ loop-number-preserved g c =
     let i = c.from-i.result in
     let stands = standing (holds c.args.force) in
     let there : i < length ks = omega (arith, in', c.from-i.ensures) in
-    let passes = nth_passes stands ks ks i c.index.result.now c.is_in_force.result c.is_in_force.ensures refl there c.index.ensures in
+    let answer : c.is_in_force.result ≡ stands (Some c.index.result.now) = search rules in
+    let passes = nth_passes stands ks ks i c.index.result.now c.is_in_force.result answer refl there c.index.ensures in
     let grown = λ (j : ℕ). among_more xs at c.loop-number-test.true j ∙ ap (λ n. eqb j n || among j (take at xs)) (sym c.from-i.ensures) in
     elim c.if-is_in_force.branch [
       | then-is_in_force w ↦ rw w.agenda-is
