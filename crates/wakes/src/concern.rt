@@ -13,8 +13,8 @@ use sets::small::Set32;
 pub fn names(form: Form, cell: usize) -> bool
     ensures { result ≡ any (λ x. nat_eq x cell) (named form) }
 {
-    // Each form in an arm of its own: an index asks this of each constraint for each cell, and on a plan of statements a
-    // walk over `named(form)` takes twice as long.
+    // Each form in an arm of its own: an index asks this of each constraint for each cell, and a walk over `named(form)` took
+    // it up to twice as long.
     match form {
         Form::State(a, _) => a == cell,
         Form::Sum(a, b, c) => (a == cell) | (b == cell) | (c == cell),
