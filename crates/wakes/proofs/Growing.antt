@@ -15,15 +15,15 @@ between_back : (xs ys : List ℕ) (i j : ℕ) → i ≡ length xs → j ≡ leng
 between_back xs ys i j e f = ap (take (j - i)) (drop_at xs ys i (sym e)) ∙ take_all (j - i) ys (omega (arith, length-append xs ys))
 
 -- Where there is no part, none goes past the numbers.
-pub inside_none : (n : ℕ) → Inside [] n
-inside_none n x p at = let z : ◌≡◌ {A = ℕ} 0 1 = cc in absurd (omega arith)
+pub inside_no_part : (n : ℕ) → Inside [] n
+inside_no_part n x p at = let z : ◌≡◌ {A = ℕ} 0 1 = cc in absurd (omega arith)
 
 -- One more part may go past the numbers that there were, but not past those that there are.
-pub inside_more : (parts : List Part) (p : Part) (n m : ℕ) → Inside parts n → n ≤ m → p.start + p.len ≤ m → Inside (parts ++ (p ∷ [])) m
-inside_more [] p n m known l k zero q at = let e : p ≡ q = cc in omega (arith, ap (λ (r : Part). r.start + r.len) e)
-inside_more [] p n m known l k (suc x) q at = let z : ◌≡◌ {A = ℕ} 0 1 = cc in absurd (omega arith)
-inside_more (r ∷ parts) p n m known l k zero q at = omega (arith, known zero q at)
-inside_more (r ∷ parts) p n m known l k (suc x) q at = inside_more parts p n m (λ y. known (suc y)) l k x q at
+pub inside_next_part : (parts : List Part) (p : Part) (n m : ℕ) → Inside parts n → n ≤ m → p.start + p.len ≤ m → Inside (parts ++ (p ∷ [])) m
+inside_next_part [] p n m known l k zero q at = let e : p ≡ q = cc in omega (arith, ap (λ (r : Part). r.start + r.len) e)
+inside_next_part [] p n m known l k (suc x) q at = let z : ◌≡◌ {A = ℕ} 0 1 = cc in absurd (omega arith)
+inside_next_part (r ∷ parts) p n m known l k zero q at = omega (arith, known zero q at)
+inside_next_part (r ∷ parts) p n m known l k (suc x) q at = inside_next_part parts p n m (λ y. known (suc y)) l k x q at
 
 -- The parts that are there hold what they held.
 parts_front : (parts : List Part) (xs ys : List ℕ) → Inside parts (length xs) → map (in_part (xs ++ ys)) parts ≡ map (in_part xs) parts

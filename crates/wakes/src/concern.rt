@@ -17,7 +17,7 @@ pub fn names(form: Form, cell: usize) -> bool
     // it up to twice as long.
     match form {
         Form::State(a, _) => a == cell,
-        Form::Sum(a, b, c) => (a == cell) | (b == cell) | (c == cell),
+        Form::Sum(a, b, c) => (a == cell) | ((b == cell) | (c == cell)),
         Form::Gap(a, _, b) => (a == cell) | (b == cell),
         Form::Apart(a, _, b, _) => (a == cell) | (b == cell),
     }

@@ -1,10 +1,11 @@
 -- Each form compares the cell with every cell that it names.
-use Rattle.std.proofs.Common.{◌≡◌, ℕ, Bool, true, false, ◌||◌, [], ◌∷◌, eqb, sym, refl, ap, ◌∙◌}
+use Rattle.std.proofs.Common.{◌≡◌, ℕ, Bool, ◌||◌, [], ◌∷◌, eqb, sym, ap, ◌∙◌}
 use mathlib.Core.Bool.{or-false}
 use Rattle.plan.specs.Forms.{named}
 use Rattle.telling.specs.Tables.{any}
 use Rattle.wakes.proofs.concern.names.Goals as goal
 
+-- Of one cell, two or three, the last test stands alone.
 module _ (is : ℕ → Bool) where
   any_one : (a : ℕ) → is a ≡ any is (a ∷ [])
   unfolding any
@@ -14,13 +15,9 @@ module _ (is : ℕ → Bool) where
   unfolding any
   any_two a b = ap (λ r. is a || r) (sym (or-false (is b)))
 
-  any_three : (a b c : ℕ) → (is a || is b || is c) ≡ any is (a ∷ b ∷ c ∷ [])
+  any_three : (a b c : ℕ) → (is a || (is b || is c)) ≡ any is (a ∷ b ∷ c ∷ [])
   unfolding any
-  any_three a b c = go (is a)
-    where
-      go : (x : Bool) → (x || is b || is c) ≡ (x || any is (b ∷ c ∷ []))
-      go true = refl
-      go false = any_two b c
+  any_three a b c = ap (λ r. is a || r) (any_two b c)
 
 pub returns-in-State : goal.returns-in-State
 returns-in-State c = any_one (λ x. eqb x c.args.cell) _ ∙ ap (λ f. any (λ x. eqb x c.args.cell) (named f)) (sym c.in-State.is)

@@ -31,6 +31,4 @@ pub overflow_cast-result-2 : goal.overflow_cast-result-2
 overflow_cast-result-2 c =
     let s = naming c.args.constraints.now c.args.cell in
     let i = c.loop-number.number in
-    let few = c.requires.few in
-    let end = c.loop-number.auto.number-end in
-    omega (arith, c.len.ensures, c.len-start.ensures, c.loop-number.numbers.ok.0, c.args.numbers.now.ok.0, ap length c.loop-number.invariant, length-append (vec_items c.args.numbers.now) (listed s i), length-listed s i, count_le s i)
+    omega (arith, c.requires.few, c.loop-number.auto.number-end, c.len.ensures, c.len-start.ensures, c.loop-number.numbers.ok.0, c.args.numbers.now.ok.0, ap length c.loop-number.invariant, length-append (vec_items c.args.numbers.now) (listed s i), length-listed s i, count_le s i)

@@ -6,7 +6,7 @@ use Rattle.sets.specs.Members.{listed}
 use Rattle.wakes.specs.Naming.{naming}
 use Rattle.wakes.specs.Parts.{in_part, Inside}
 use Rattle.wakes.specs.declared.part.Part.{Part}
-use Rattle.wakes.proofs.Growing.{inside_none, inside_more, parts_more}
+use Rattle.wakes.proofs.Growing.{inside_no_part, inside_next_part, parts_more}
 use Rattle.wakes.proofs.Totals.{length-listed, total_none, total_more, total_naming}
 use Rattle.wakes.proofs.parts.parts_of.Goals as goal
 
@@ -16,7 +16,7 @@ loop-cell-init c =
     let n = length (vec_items c.new-numbers.result) in
     record {
       room = c.in_ok-parts.ensures.capacity;
-      inside = subst (λ (ps : List Part). Inside ps n) (sym c.in_ok-parts.ensures.items) (inside_none n);
+      inside = subst (λ (ps : List Part). Inside ps n) (sym c.in_ok-parts.ensures.items) (inside_no_part n);
       size = ap length c.new-numbers.ensures.items ∙ sym (total_none (naming ks) (length ks));
       parts = ap (map (in_part (vec_items c.new-numbers.result))) c.in_ok-parts.ensures.items;
     }
@@ -54,7 +54,7 @@ loop-cell-preserved c =
     let grows : length numbers ≡ length xs + length ys = ap length added ∙ length-append xs ys in
     record {
       room = omega (arith, c.push_reserved.ensures.capacity, known.room);
-      inside = subst (λ (ps : List Part). Inside ps (length numbers)) (sym pushed) (inside_more parts part (length xs) (length numbers) known.inside (omega (arith, grows)) (omega (arith, lies.1)));
+      inside = subst (λ (ps : List Part). Inside ps (length numbers)) (sym pushed) (inside_next_part parts part (length xs) (length numbers) known.inside (omega (arith, grows)) (omega (arith, lies.1)));
       size = omega (arith, grows, known.size, length-listed (naming ks cell) (length ks), total_more (naming ks) (length ks) cell);
       parts =
           ap (λ r. map (in_part r) (vec_items c.push_reserved.new.self)) added
